@@ -1,0 +1,5 @@
+pub mod Causes
+pub mod Bytes
+pub mod Blocks
+pub mod InMemory
+pub mod NamedFiles

@@ -1,0 +1,33 @@
+//! The outside: where bytes come from and where they go, the files that are read whole, and the stores for
+//! blocks that overflow. Each is a trait, with forms in memory for tests and forms over the real thing.
+//!
+//! Every form keeps a count of its faults that never falls, and a call fails only where that count rose. What an
+//! object has left or holds is told by the forms in memory and by none of the real ones.
+#![tactic(auto)]
+
+mod calls;
+mod files;
+mod folder;
+mod memory_files;
+mod memory_sink;
+mod memory_source;
+mod memory_spill;
+mod sink;
+mod source;
+mod spill;
+mod standard;
+mod unread;
+
+pub use files::{FileFault, Files};
+pub use folder::Folder;
+pub use memory_files::{MemFiles, NamedFile, SureFiles};
+pub use memory_sink::{MemSink, SureSink};
+pub use memory_source::{MemSource, SureSource};
+pub use memory_spill::SureSpill;
+pub use sink::{Sink, write_all};
+pub use source::{Failed, Source};
+pub use spill::{Spill, StoreFault};
+pub use standard::{Reading, Writing};
+
+#[cfg(test)]
+mod tests;
