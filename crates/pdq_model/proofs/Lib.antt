@@ -1,0 +1,7 @@
+pub mod Lists
+pub mod Soundness
+pub mod Heads
+pub mod Histories
+pub mod Numbers
+pub mod WrittenOrder
+pub mod Examples

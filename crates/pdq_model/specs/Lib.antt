@@ -1,0 +1,11 @@
+pub mod Configuration
+pub mod Shares
+pub mod State
+pub mod Order
+pub mod Gates
+pub mod Settling
+pub mod Step
+pub mod History
+pub mod Soundness
+pub mod StatusView
+pub mod Laws
