@@ -1,0 +1,186 @@
+//! Rows in frames.
+ghost use Rattle.std.specs.Prelude.{◌≡◌, ◌+◌, ◌-◌, ◌*◌, ◌/◌, ◌%◌, ◌<◌, ◌≤◌, length, slice_get, slice_index_or, Some, None, IfSome, MatchOption};
+ghost use Rattle.pdq_frame.specs.Regions.{room, cleared, HasSameShape, with_row, with_words, with_head, word_of, link_of};
+
+use crate::slot::Slot;
+use crate::stock::Stock;
+use std::alloc::Global;
+use std::marker::Model;
+
+/// Frames out of a pool, with heads and rows in them. It must be spent: given back to a pool, split, or handed on.
+///
+/// The first frames hold 512 heads each. A row of `width` words stands with the word of its link behind it, so each other frame
+/// holds 512 / (width + 1) rows.
+pub struct Region {
+    stock: Stock,
+    heads: u32,
+    width: u32,
+    rows_per_frame: u32,
+    rows: u32,
+}
+
+impl Model for Region {
+    ghost use Rattle.std.specs.Prelude.{length};
+    ghost use Rattle.pdq_frame.specs.Regions.{RegionView, rows_of, heads_of, IsRegion};
+
+    ghost Value = { RegionView };
+
+    ghost view = { λ a. record { frames = length a.stock; width = a.width; heads = heads_of a.heads a.stock; rows = rows_of a.heads a.width a.rows a.stock } };
+
+    ghost invariant = { λ a. IsRegion a.heads a.width a.rows_per_frame a.rows a.stock };
+}
+
+/// The word that a link is kept as: 0 for none, else the number of the row and 1.
+fn word(link: Option<Slot>) -> i64
+    ensures value { result ≡ word_of link }
+{
+    match link {
+        None => 0,
+        Some(slot) => slot.number as i64 + 1,
+    }
+}
+
+/// The link that is kept as a word.
+fn link(word: i64) -> Option<Slot>
+    ensures value { result ≡ link_of word }
+{
+    if word <= 0 || word > 4294967296 {
+        None
+    } else {
+        Some(Slot {
+            number: (word - 1) as u32,
+        })
+    }
+}
+
+impl Region {
+    /// A region of these frames, with no head and no row.
+    pub(crate) fn fresh(stock: Stock) -> Region
+        requires few { length stock ≤ 262144 }
+        ensures value { result ≡ cleared (length stock) 0 511 }
+    {
+        Region {
+            stock,
+            heads: 0,
+            width: 511,
+            rows_per_frame: 1,
+            rows: 0,
+        }
+    }
+
+    /// Where the region's memory came from.
+    pub(crate) fn allocator(&self) -> Global {
+        self.stock.allocator()
+    }
+
+    /// The frames alone.
+    pub(crate) fn into_stock(self) -> Stock
+        ensures count { length result ≡ self.frames }
+        ensures few { length result ≤ 262144 }
+    {
+        let Region {
+            stock,
+            heads: _,
+            width: _,
+            rows_per_frame: _,
+            rows: _,
+        } = self;
+        stock
+    }
+
+    /// Makes the first `heads` frames into 512 empty heads each, and the others into room for rows of `width` words. No row stands.
+    pub fn reset(&mut self, heads: u32, width: u32)
+        requires heads { heads < self.old.frames }
+        requires low { 1 ≤ width }
+        requires high { width ≤ 511 }
+        ensures value { self.new ≡ cleared self.old.frames heads width }
+    {
+        self.stock.clear_first(heads as usize);
+        self.heads = heads;
+        self.width = width;
+        self.rows_per_frame = 512 / (width + 1);
+        self.rows = 0;
+    }
+
+    /// The frames of the region.
+    pub fn frames(&self) -> u32
+        ensures value { result ≡ self.now.frames }
+    {
+        self.stock.count() as u32
+    }
+
+    /// How many more rows can be put.
+    pub fn room(&self) -> u64
+        ensures value { result ≡ room self.now }
+    {
+        ((self.stock.count() as u32 - self.heads) * self.rows_per_frame - self.rows) as u64
+    }
+
+    /// Puts one more row, with a link to one that stands; None, with nothing changed, exactly where there is no room.
+    pub fn put(&mut self, row: &[i64], to: Option<Slot>) -> Option<Slot>
+        requires width { length row.now ≡ self.old.width }
+        requires stands { IfSome to (λ slot. slot < length self.old.rows) }
+        ensures shape { HasSameShape self.old self.new }
+        ensures row { MatchOption result ((room self.old ≡ 0) × (self.new ≡ self.old)) (λ slot. (0 < room self.old) × (slot ≡ length self.old.rows) × (self.new ≡ with_row self.old (record { words = row.now; link = to }))) }
+    {
+        let number = self.rows;
+        if (self.stock.count() as u32 - self.heads) * self.rows_per_frame <= number {
+            return None;
+        }
+        let frame = (self.heads + number / self.rows_per_frame) as usize;
+        let at = ((number % self.rows_per_frame) * (self.width + 1)) as usize;
+        self.stock.store(frame, at, row, word(to));
+        self.rows = number + 1;
+        Some(Slot { number })
+    }
+
+    /// Replaces the words of a row that stands. Its link is kept.
+    pub fn write(&mut self, slot: Slot, row: &[i64])
+        requires stands { slot < length self.old.rows }
+        requires width { length row.now ≡ self.old.width }
+        ensures value { self.new ≡ with_words self.old slot row.now }
+    {
+        let frame = (self.heads + slot.number / self.rows_per_frame) as usize;
+        let at = ((slot.number % self.rows_per_frame) * (self.width + 1)) as usize;
+        let last = self.stock.frame(frame)[at + self.width as usize];
+        self.stock.store(frame, at, row, last);
+    }
+
+    /// The words of a row that stands, and its link, which leads to an earlier row.
+    pub fn read(&self, slot: Slot) -> (&[i64], Option<Slot>)
+        requires stands { slot < length self.now.rows }
+        ensures row { slice_get self.now.rows slot ≡ Some (record { words = result.0.now; link = result.1 }) }
+        ensures width { length result.0.now ≡ self.now.width }
+        ensures earlier { IfSome result.1 (λ other. other < slot) }
+    {
+        let words = self
+            .stock
+            .frame((self.heads + slot.number / self.rows_per_frame) as usize);
+        let at = ((slot.number % self.rows_per_frame) * (self.width + 1)) as usize;
+        let end = at + self.width as usize;
+        (&words[at..end], link(words[end]))
+    }
+
+    /// The row that the head of a bucket leads to, which stands.
+    pub fn head(&self, bucket: u32) -> Option<Slot>
+        requires bucket { bucket < length self.now.heads }
+        ensures head { slice_get self.now.heads bucket ≡ Some result }
+        ensures stands { IfSome result (λ slot. slot < length self.now.rows) }
+    {
+        link(self.stock.frame((bucket / 512) as usize)[(bucket % 512) as usize])
+    }
+
+    /// Lets the head of a bucket lead to a row that stands, or to none.
+    pub fn set_head(&mut self, bucket: u32, to: Option<Slot>)
+        requires bucket { bucket < length self.old.heads }
+        requires stands { IfSome to (λ slot. slot < length self.old.rows) }
+        ensures value { self.new ≡ with_head self.old bucket to }
+    {
+        self.stock.store(
+            (bucket / 512) as usize,
+            (bucket % 512) as usize,
+            &[],
+            word(to),
+        );
+    }
+}
