@@ -1,0 +1,9 @@
+pub mod OrderLaws
+pub mod Lookups
+pub mod Settling
+pub mod Quiet
+pub mod Standing
+pub mod Granting
+pub mod Conserving
+pub mod Shown
+pub mod Admitting
