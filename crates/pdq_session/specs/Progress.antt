@@ -1,0 +1,190 @@
+-- How far a script has come, and what it took and wrote on the way.
+use Rattle.std.specs.Prelude.{ℕ, ◌≡◌, ◌≤◌, ◌⊎◌, List, [], ◌++◌, Bool, true, false, Option, Some, None, IsTrue}
+use Rattle.pdq_edge.specs.Bytes.{Grows, GrewSome}
+use Rattle.pdq_model.specs.State.{State}
+use Rattle.pdq_model.specs.Step.{is_open}
+use Rattle.pdq_session.specs.declared.scripts.Turn.{Turn}
+use Rattle.pdq_session.specs.declared.scripts.Turn.TheVariants as turn
+use Rattle.pdq_session.specs.declared.scripts.ScriptEnd.{ScriptEnd}
+use Rattle.pdq_session.specs.declared.scripts.ScriptEnd.TheVariants as script_end
+use Rattle.pdq_session.specs.declared.replies.LineFault.{LineFault}
+use Rattle.pdq_session.specs.Commands.{line_of}
+use Rattle.pdq_session.specs.Lines.{lines_of}
+use Rattle.pdq_session.specs.Replies.{fault_text}
+use Rattle.pdq_session.specs.Reading.{Reader, Took, decided, remaining}
+use Rattle.pdq_session.specs.ScriptTranscript.{Out, ScriptEnding, AtEnd, AtFault, after, fault_of, own_session, run_lines, script_step}
+
+-- the manager's state, the reader of lines, and the replies that are not yet written
+pub record Progress : Type 0 where
+  pub manager : State
+  pub reader : Reader
+  pub replies : List ℕ
+
+abbrev pub progress : State → Reader → List ℕ → Progress
+progress manager reader replies = record { manager = manager; reader = reader; replies = replies }
+
+-- what is written from here on, once these bytes have come too
+abbrev pub rest_of : Progress → List ℕ → Out
+rest_of p bytes = after p.replies (run_lines (record { manager = p.manager }) p.reader.given (lines_of (p.reader.buffered ++ bytes)))
+
+-- more lines can be run
+pub record IsGoing (p : Progress) : Type 0 where
+  pub session : IsTrue (is_open p.manager own_session)
+  pub early : p.reader.given ≤ 16777216
+
+-- these bytes came and this text was written, and the script goes on from there
+pub record GoesOn (old new : Progress) (text bytes : List ℕ) : Type 0 where
+  pub each : (more : List ℕ) → rest_of old (bytes ++ more) ≡ after text (rest_of new more)
+
+-- what a source has told: its bytes to come, how many it gave, and whether it has ended
+pub record SourceView : Type 0 where
+  pub left : Option (List ℕ)
+  pub taken : ℕ
+  pub ended : Bool
+
+abbrev pub source_view : {S : Type 0} → (S → Option (List ℕ)) → (S → ℕ) → (S → Bool) → S → SourceView
+source_view left taken ended source = record { left = left source; taken = taken source; ended = ended source }
+
+-- what can still come of a source: what it tells, where it told its bytes before, and anything where it has not ended
+abbrev pub CanFollow : SourceView → SourceView → List ℕ → Type 0
+CanFollow before now more = (more ≡ remaining before.left now.left) ⊎ (IsTrue now.ended → more ≡ [])
+
+-- the source gave these bytes
+abbrev pub Came : SourceView → SourceView → List ℕ → Type 0
+Came before now bytes = Took before.left now.left before.taken now.taken bytes
+
+-- the script took bytes from the source, and what was ready went to the sink
+pub record Played (before now : SourceView) (written0 written : Option (List ℕ)) (old new : Progress) : Type 0 where
+  pub bytes : List ℕ
+  pub text : List ℕ
+  pub came : Came before now bytes
+  pub grew : Grows written0 written text
+  pub runs : GoesOn old new text bytes
+
+-- the input has ended, and all its lines were answered
+pub record PlayedAll (before now : SourceView) (written0 written : Option (List ℕ)) (old new : Progress) : Type 0 where
+  pub bytes : List ℕ
+  pub text : List ℕ
+  pub came : Came before now bytes
+  pub grew : Grows written0 written text
+  pub ended : IsTrue now.ended
+  pub none_left : remaining before.left now.left ≡ []
+  pub buffered : new.reader.buffered ≡ []
+  pub runs : rest_of old bytes ≡ after text (rest_of new [])
+
+-- a line was refused, and all was written
+pub record PlayedBad (before now : SourceView) (written0 written : Option (List ℕ)) (old new : Progress) : Type 0 where
+  pub bytes : List ℕ
+  pub text : List ℕ
+  pub came : Came before now bytes
+  pub grew : Grows written0 written text
+  pub ends : (more : List ℕ) → CanFollow before now more → rest_of old (bytes ++ more) ≡ record { text = text; ending = AtFault; state = record { manager = new.manager } }
+
+-- this text begins the whole
+pub record Begins (whole text : List ℕ) : Type 0 where
+  pub tail : List ℕ
+  pub part : whole ≡ text ++ tail
+
+-- the source failed before it gave the rest of a line
+pub record PlayedUnread (before now : SourceView) (written0 written : Option (List ℕ)) (old new : Progress) : Type 0 where
+  pub played : Played before now written0 written old new
+  pub undecided : decided new.reader.given new.reader.buffered ≡ None
+
+-- the script was cut off, and what was written begins what would have been written
+pub record PlayedSome (before now : SourceView) (written0 written : Option (List ℕ)) (old : Progress) : Type 0 where
+  pub bytes : List ℕ
+  pub text : List ℕ
+  pub came : Came before now bytes
+  pub grew : Grows written0 written text
+  pub begins : (more : List ℕ) → CanFollow before now more → Begins (rest_of old (bytes ++ more)).text text
+
+-- the source gave some bytes; whatever can follow them, the whole text was written
+pub record Wrote (before now : SourceView) (written0 written : Option (List ℕ)) (out : List ℕ → Out) (ending : ScriptEnding) (state : State) : Type 0 where
+  pub bytes : List ℕ
+  pub text : List ℕ
+  pub came : Came before now bytes
+  pub grew : Grows written0 written text
+  pub whole : (more : List ℕ) → CanFollow before now more → out (bytes ++ more) ≡ record { text = text; ending = ending; state = record { manager = state } }
+
+-- the source gave some bytes; whatever can follow them, what was written begins the whole text
+pub record WroteSome (before now : SourceView) (written0 written : Option (List ℕ)) (out : List ℕ → Out) : Type 0 where
+  pub bytes : List ℕ
+  pub text : List ℕ
+  pub came : Came before now bytes
+  pub grew : Grows written0 written text
+  pub begins : (more : List ℕ) → CanFollow before now more → Begins (out (bytes ++ more)).text text
+
+-- the source gave some bytes, and all that their lines are answered was written; what follows begins with a part of a line that has no end yet
+pub record WroteAnswers (before now : SourceView) (written0 written : Option (List ℕ)) (out : List ℕ → Out) (state : State) : Type 0 where
+  pub bytes : List ℕ
+  pub text : List ℕ
+  pub came : Came before now bytes
+  pub grew : Grows written0 written text
+  pub given : ℕ
+  pub part : List ℕ
+  pub undecided : decided given part ≡ None
+  pub follows : (more : List ℕ) → out (bytes ++ more) ≡ after text (run_lines (record { manager = state }) given (lines_of (part ++ more)))
+
+-- how a part of a run ends: by its turn
+abbrev pub Turns : Turn → SourceView → SourceView → Option (List ℕ) → Option (List ℕ) → Progress → Progress → Type 0
+Turns turn.On before now written0 written old new = Played before now written0 written old new
+Turns turn.End before now written0 written old new = PlayedAll before now written0 written old new
+Turns turn.Bad before now written0 written old new = PlayedBad before now written0 written old new
+Turns turn.ReadFault before now written0 written old new = PlayedUnread before now written0 written old new
+Turns turn.WriteFault before now written0 written old new = PlayedSome before now written0 written old
+Turns turn.Memory before now written0 written old new = PlayedSome before now written0 written old
+
+-- a line was answered, and is not refused
+pub record Answered (says : List ℕ) (old new : Progress) : Type 0 where
+  pub good : fault_of (line_of says) ≡ None
+  pub state : new.manager ≡ (script_step (record { manager = old.manager }) (line_of says)).state.manager
+  pub replies : new.replies ≡ old.replies ++ (script_step (record { manager = old.manager }) (line_of says)).text
+  pub reader : new.reader ≡ old.reader
+  pub session : IsTrue (is_open new.manager own_session)
+
+-- how the line of a fault is written behind these replies: whole, a first part of it, or nothing
+abbrev pub Refuses : Turn → LineFault → Option (List ℕ) → Option (List ℕ) → List ℕ → Type 0
+Refuses turn.On reason written0 written replies = ⊥
+Refuses turn.End reason written0 written replies = ⊥
+Refuses turn.Bad reason written0 written replies = Grows written0 written (replies ++ fault_text reason)
+Refuses turn.ReadFault reason written0 written replies = ⊥
+Refuses turn.WriteFault reason written0 written replies = GrewSome written0 written (replies ++ fault_text reason)
+Refuses turn.Memory reason written0 written replies = written ≡ written0
+
+-- a line is refused
+pub record IsRefused (which : Turn) (says : List ℕ) (written0 written : Option (List ℕ)) (old new : Progress) : Type 0 where
+  pub reason : LineFault
+  pub bad : fault_of (line_of says) ≡ Some reason
+  pub refuses : Refuses which reason written0 written old.replies
+  pub state : new.manager ≡ old.manager
+
+-- how a line is answered that says this, and that the end of the input ended or not
+abbrev pub Answers : Turn → List ℕ → Bool → Option (List ℕ) → Option (List ℕ) → Progress → Progress → Type 0
+Answers turn.On says last written0 written old new = Answered says old new × (last ≡ false) × (written ≡ written0)
+Answers turn.End says last written0 written old new = Answered says old new × (last ≡ true) × (written ≡ written0)
+Answers turn.Bad says last written0 written old new = IsRefused turn.Bad says written0 written old new
+Answers turn.ReadFault says last written0 written old new = ⊥
+Answers turn.WriteFault says last written0 written old new = IsRefused turn.WriteFault says written0 written old new
+Answers turn.Memory says last written0 written old new = written ≡ written0
+
+-- how the last line is written behind these replies: whole, a first part of it, or nothing
+abbrev pub Concludes : ScriptEnd → Option (List ℕ) → Option (List ℕ) → List ℕ → Type 0
+Concludes (script_end.End store_failed) written0 written text = Grows written0 written text × (store_failed ≡ false)
+Concludes script_end.BadScript written0 written text = ⊥
+Concludes script_end.ReadFault written0 written text = ⊥
+Concludes script_end.WriteFault written0 written text = GrewSome written0 written text
+Concludes script_end.Memory written0 written text = written ≡ written0
+
+-- the script ran to the end of its input
+pub record RanWhole (before now : SourceView) (written0 written : Option (List ℕ)) (out : List ℕ → Out) (state : State) (store_failed : Bool) : Type 0 where
+  pub wrote : Wrote before now written0 written out AtEnd state
+  pub ended : IsTrue now.ended
+  pub no_fault : store_failed ≡ false
+
+-- how a script ends, whose bytes come from a source and whose text goes to a sink
+abbrev pub Ends : ScriptEnd → SourceView → SourceView → Option (List ℕ) → Option (List ℕ) → (List ℕ → Out) → State → Type 0
+Ends (script_end.End store_failed) before now written0 written out state = RanWhole before now written0 written out state store_failed
+Ends script_end.BadScript before now written0 written out state = Wrote before now written0 written out AtFault state
+Ends script_end.ReadFault before now written0 written out state = WroteSome before now written0 written out
+Ends script_end.WriteFault before now written0 written out state = WroteSome before now written0 written out
+Ends script_end.Memory before now written0 written out state = WroteSome before now written0 written out

@@ -1,0 +1,238 @@
+//! The text of the replies and of the refusals.
+ghost use Rattle.std.specs.Prelude.{◌≡◌, ◌++◌, OnOk, flat_map, string_bytes};
+ghost use Rattle.pdq_session.specs.Replies.{admit_text, admits_text, cancelled_text, done_text, end_line, fault_text, outside_text, placed_text, refusal_number, refusal_text, refusal_words, role_of, session_text, stopped_text, why_number, why_words};
+
+use pdq_model::{Admit, Why};
+use std::alloc::{AllocError, Global};
+
+/// Why a line ends the script.
+#[derive(Clone, Copy)]
+pub(crate) enum LineFault {
+    /// The line has no form of a command.
+    BadLine,
+    /// A claim's priority is above 100, or its number of fragments is not 1 to 16.
+    OutOfRange,
+    /// 8,193 bytes came without a line end.
+    LineTooLong,
+    /// Byte 16,777,217 of the input came before the line ended.
+    InputTooLong,
+}
+
+/// Why what a line asks for is refused; the script goes on.
+#[derive(Clone, Copy)]
+pub(crate) enum Refusal {
+    /// For a reason of the manager.
+    Manager(Why),
+    /// The query still waits.
+    NotNow,
+}
+
+fn number_of(why: Why) -> u32
+    ensures value { result ≡ why_number why }
+{
+    match why {
+        Why::QueueFull => 10,
+        Why::JournalFull => 11,
+        Why::NotAllowed => 12,
+        Why::NoSuchQuery => 13,
+        Why::BadValue => 14,
+        Why::AlreadyCancelled => 15,
+        Why::TooManySessions => 18,
+        Why::PoolSize { .. } => 20,
+    }
+}
+
+fn words_of(why: Why) -> &'static str
+    ensures value { result.now ≡ why_words why }
+{
+    match why {
+        Why::QueueFull => "queue full",
+        Why::JournalFull => "journal full",
+        Why::NotAllowed => "not allowed",
+        Why::NoSuchQuery => "no such query",
+        Why::BadValue => "bad value",
+        Why::AlreadyCancelled => "already cancelled",
+        Why::TooManySessions => "too many sessions",
+        Why::PoolSize { .. } => "pool size",
+    }
+}
+
+impl Refusal {
+    fn number(self) -> u32
+        ensures value { result ≡ refusal_number self }
+    {
+        match self {
+            Refusal::Manager(why) => number_of(why),
+            Refusal::NotNow => 22,
+        }
+    }
+
+    fn words(self) -> &'static str
+        ensures value { result.now ≡ refusal_words self }
+    {
+        match self {
+            Refusal::Manager(why) => words_of(why),
+            Refusal::NotNow => "not now",
+        }
+    }
+}
+
+fn add(out: &mut Vec<u8>, text: String) -> Result<(), AllocError>
+    ensures text { OnOk result (out.new.items ≡ out.old.items ++ string_bytes text) }
+{
+    out.extend_from_slice(text.as_bytes())?;
+    Ok(())
+}
+
+fn role(admin: bool) -> &'static str
+    ensures value { result.now ≡ role_of admin }
+{
+    if admin { "ADMIN" } else { "USER" }
+}
+
+/// Adds the reply to the opening of a session, an administrator's or a user's.
+pub(crate) fn add_session(
+    alloc: Global,
+    out: &mut Vec<u8>,
+    session: u32,
+    admin: bool,
+    step: u64,
+) -> Result<(), AllocError>
+    ensures text { OnOk result (out.new.items ≡ out.old.items ++ session_text session admin step) }
+{
+    let role = role(admin);
+    let text = format!(in alloc; "SESSION {session} {role} STEP {step}\n")?;
+    add(out, text)
+}
+
+/// Adds the reply to a claim that was placed.
+pub(crate) fn add_placed(
+    alloc: Global,
+    out: &mut Vec<u8>,
+    id: u32,
+    step: u64,
+    priority: u32,
+    gate: u32,
+) -> Result<(), AllocError>
+    ensures text { OnOk result (out.new.items ≡ out.old.items ++ placed_text id step priority gate) }
+{
+    let text = format!(in alloc; "QUERY {id} STEP {step} PRIORITY {priority} GATE {gate}\n")?;
+    add(out, text)
+}
+
+/// Adds the reply to a claim of effective priority 0.
+pub(crate) fn add_outside(alloc: Global, out: &mut Vec<u8>, step: u64) -> Result<(), AllocError>
+    ensures text { OnOk result (out.new.items ≡ out.old.items ++ outside_text step) }
+{
+    let text = format!(in alloc; "OUTSIDE STEP {step}\n")?;
+    add(out, text)
+}
+
+/// Adds the reply to the end of a query.
+pub(crate) fn add_done(
+    alloc: Global,
+    out: &mut Vec<u8>,
+    id: u32,
+    step: u64,
+) -> Result<(), AllocError>
+    ensures text { OnOk result (out.new.items ≡ out.old.items ++ done_text id step) }
+{
+    let text = format!(in alloc; "DONE {id} STEP {step}\n")?;
+    add(out, text)
+}
+
+/// Adds the reply to the end of a query that was cancelled at the step `by` while it was active.
+pub(crate) fn add_stopped(
+    alloc: Global,
+    out: &mut Vec<u8>,
+    id: u32,
+    step: u64,
+    by: u64,
+) -> Result<(), AllocError>
+    ensures text { OnOk result (out.new.items ≡ out.old.items ++ stopped_text id step by) }
+{
+    let text = format!(in alloc; "STOPPED {id} STEP {step} BY STEP {by}\n")?;
+    add(out, text)
+}
+
+/// Adds the reply to the collection of a query that was cancelled at the step `by` while it waited.
+pub(crate) fn add_cancelled(
+    alloc: Global,
+    out: &mut Vec<u8>,
+    id: u32,
+    step: u64,
+    by: u64,
+) -> Result<(), AllocError>
+    ensures text { OnOk result (out.new.items ≡ out.old.items ++ cancelled_text id step by) }
+{
+    let text = format!(in alloc; "CANCELLED {id} STEP {step} BY STEP {by}\n")?;
+    add(out, text)
+}
+
+fn add_admit(alloc: Global, out: &mut Vec<u8>, admit: &Admit) -> Result<(), AllocError>
+    ensures text { OnOk result (out.new.items ≡ out.old.items ++ admit_text admit.now) }
+{
+    let (id, quanta, scans) = (admit.id, admit.quanta, admit.scans);
+    let text = format!(in alloc; "ADMIT {id} QUANTA {quanta} SCANS {scans}\n")?;
+    add(out, text)
+}
+
+/// Adds a line for each query that was admitted.
+pub(crate) fn add_admits(
+    alloc: Global,
+    out: &mut Vec<u8>,
+    admits: &[Admit],
+) -> Result<(), AllocError>
+    ensures text { OnOk result (out.new.items ≡ out.old.items ++ admits_text admits.now) }
+{
+    'admits: for admit in admits {
+        add_admit(alloc, out, admit)?;
+    }
+    Ok(())
+}
+
+/// Adds the line of a refusal after which the script goes on.
+pub(crate) fn add_refusal(
+    alloc: Global,
+    out: &mut Vec<u8>,
+    refusal: Refusal,
+    step: u64,
+) -> Result<(), AllocError>
+    ensures text { OnOk result (out.new.items ≡ out.old.items ++ refusal_text refusal step) }
+{
+    let number = refusal.number();
+    let words = refusal.words();
+    let text = format!(in alloc; "ERROR {number} {words} AT STEP {step}\n")?;
+    add(out, text)
+}
+
+/// Adds the line of a fault that ends the script.
+pub(crate) fn add_fault(out: &mut Vec<u8>, fault: LineFault) -> Result<(), AllocError>
+    ensures text { OnOk result (out.new.items ≡ out.old.items ++ fault_text fault) }
+{
+    let text = match fault {
+        LineFault::BadLine => b"ERROR 1 bad line AT 0\n",
+        LineFault::OutOfRange => b"ERROR 1 bad line AT 0\n",
+        LineFault::LineTooLong => b"ERROR 1 bad line AT 0\n",
+        LineFault::InputTooLong => b"ERROR 1 bad line AT 0\n",
+    };
+    out.extend_from_slice(text)?;
+    Ok(())
+}
+
+/// Adds the last line of a script.
+pub(crate) fn add_end(
+    alloc: Global,
+    out: &mut Vec<u8>,
+    step: u64,
+    reserved: u32,
+    scans: u32,
+    waiting: usize,
+) -> Result<(), AllocError>
+    ensures text { OnOk result (out.new.items ≡ out.old.items ++ end_line step reserved scans waiting) }
+{
+    let text = format!(in alloc;
+        "END STEP {step} RESERVED {reserved} SCANS {scans} WAITING {waiting}\n"
+    )?;
+    add(out, text)
+}

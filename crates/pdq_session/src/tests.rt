@@ -1,0 +1,79 @@
+//! Worked examples: what scripts print, and the lines of a source that gives one byte a read.
+
+use crate::lines::{LineOutcome, LineReader};
+use crate::{ScriptEnd, script_in};
+use pdq_edge::{MemSource, SureSink, SureSource};
+use pdq_frame::Pool;
+use pdq_gate::{Config, Manager};
+use std::alloc::Global;
+use std::test::Fail;
+
+// What a script of these lines writes, and how it ends, with 4,000 KB, 10 queries and 10 scan threads.
+fn transcript(alloc: Global, lines: &str) -> Result<(String, ScriptEnd), Fail> {
+    let config = Config::check(100, 4000, 10, 10).ok_or("a valid configuration")?;
+    let mut source = SureSource::new(Vec::from_slice(alloc, lines.as_bytes())?);
+    let mut sink = SureSink::new(alloc);
+    let pool = Pool::new(alloc, config.frames_per_quantum(), config.max_queries())?;
+    let Ok(mut manager) = Manager::new(alloc, config, pool) else {
+        return Err(Fail::from("memory"));
+    };
+    let end = script_in(alloc, &mut manager, &mut source, &mut sink);
+    drop(manager.end());
+    let text = String::from_utf8_lossy(alloc, sink.bytes())?;
+    Ok((text, end))
+}
+
+#[test]
+fn scripts_print(rt: HostRuntime) -> Result<(), Fail> {
+    const END: ScriptEnd = ScriptEnd::End {
+        store_failed: false,
+    };
+    for (lines, end, want) in [
+        ("", END, "END STEP 1 RESERVED 0 SCANS 0 WAITING 0\n"),
+        (
+            "CLAIM 50 4",
+            END,
+            "QUERY 1 STEP 2 PRIORITY 50 GATE 0\nADMIT 1 QUANTA 5 SCANS 4\nEND STEP 2 RESERVED 5 SCANS 4 WAITING 0\n",
+        ),
+        (
+            "CLAIM 100 1\r\nCLAIM 50 1\r\nCLAIM 40 1\r\ndone 1\r\n",
+            END,
+            "QUERY 1 STEP 2 PRIORITY 100 GATE 0\nADMIT 1 QUANTA 10 SCANS 1\nQUERY 2 STEP 3 PRIORITY 50 GATE 1\nQUERY 3 STEP 4 PRIORITY 40 GATE 3\nDONE 1 STEP 6\nADMIT 2 QUANTA 5 SCANS 1\nADMIT 3 QUANTA 4 SCANS 1\nEND STEP 6 RESERVED 9 SCANS 2 WAITING 0\n",
+        ),
+        (
+            "# nothing\n\n \t\n\tCLAIM\t0  4\nCLAIM 007 1\nCLAIM 100 1\nDONE 2\nDONE 3\nDONE 99999999999\nCLAIM 1 1\n",
+            ScriptEnd::BadScript,
+            "OUTSIDE STEP 1\nQUERY 1 STEP 2 PRIORITY 7 GATE 0\nADMIT 1 QUANTA 1 SCANS 1\nQUERY 2 STEP 3 PRIORITY 100 GATE 1\nERROR 22 not now AT STEP 3\nERROR 13 no such query AT STEP 3\nERROR 1 bad line AT 0\n",
+        ),
+    ] {
+        let (text, ended) = transcript(rt.alloc(), lines)?;
+        let rest = text.as_str().strip_prefix("SESSION 1 ADMIN STEP 1\n");
+        assert_eq!(rt; rest, Some(want), "of {lines}");
+        assert_eq!(rt; ended, end, "of {lines}");
+    }
+    Ok(())
+}
+
+#[test]
+fn lines_come_byte_by_byte(rt: HostRuntime) -> Result<(), Fail> {
+    let bytes = Vec::from_slice(rt.alloc(), b"one\r\n\ntwo\r\r\nlast\r")?;
+    let mut source = MemSource::with_most(bytes, vec![in rt.alloc(); 6]?, 1);
+    let Ok(mut reader) = LineReader::new(rt.alloc()) else {
+        return Err(Fail::from("memory"));
+    };
+    for (outcome, line) in [
+        (LineOutcome::Line, "one"),
+        (LineOutcome::Line, ""),
+        (LineOutcome::Failed, ""),
+        (LineOutcome::Line, "two\r"),
+        (LineOutcome::Line, "last"),
+        (LineOutcome::End, ""),
+    ] {
+        assert_eq!(rt; reader.next_line(&mut source), outcome, "at {line}");
+        if outcome == LineOutcome::Line {
+            assert_eq!(rt; reader.line(), line.as_bytes());
+        }
+    }
+    assert!(rt; reader.is_last());
+    Ok(())
+}
