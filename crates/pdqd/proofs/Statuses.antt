@@ -1,0 +1,66 @@
+-- From how a script ended to what a run wrote.
+use Rattle.std.proofs.Common.{◌≡◌, ℕ, ◌≤◌, ◌⊎◌, inl, inr, Bool, List, [], ◌++◌, length, Option, refl, sym, ◌∙◌, ap, subst, arith}
+use Rattle.std.proofs.lemmas.List.{append-nil}
+use Rattle.pdq_edge.specs.Bytes.{Grows}
+use Rattle.pdq_edge.specs.Causes.{Rose}
+use Rattle.pdq_model.specs.Configuration.{Configuration}
+use Rattle.pdq_model.specs.State.{State}
+use Rattle.pdq_session.specs.Progress.{SourceView, CanFollow, Begins, Wrote, WroteSome}
+use Rattle.pdq_session.specs.ScriptTranscript.{Out, ScriptEnding, script_transcript}
+use Rattle.pdqd.specs.declared.words.Form.TheVariants.{Script}
+use Rattle.pdqd.specs.Run.{Output, run_output, status_of, WroteAll, WrotePart, IsWhole, IsCutOff}
+
+-- what a sink told stays what it grew by
+grows_same : (w0 w v : Option (List ℕ)) (text : List ℕ) → v ≡ w → Grows w0 w text → Grows w0 v text
+grows_same w0 w v text same grew = let P : Option (List ℕ) → Type 0 = λ o. Grows w0 o text in subst P (sym same) grew
+
+-- the output of a run with the text and the ending of its script
+output_of : Out → Output
+output_of out = record { text = out.text; status = status_of out.ending }
+
+-- a script that wrote its whole transcript is a run that wrote all
+pub wrote_all : (c : Configuration) (p faults status : ℕ) (before now : SourceView) (w0 w v : Option (List ℕ)) (ending : ScriptEnding) (state : State) → Wrote before now w0 w (script_transcript c) ending state → v ≡ w → status ≡ status_of ending → WroteAll (Script c p) before now w0 v faults status
+unfolding output_of
+wrote_all c p faults status before now w0 w v ending state wrote same is = record {
+  bytes = wrote.bytes;
+  text = wrote.text;
+  failed = [];
+  few = omega arith;
+  came = wrote.came;
+  grew = grows_same w0 w v wrote.text same wrote.grew;
+  whole = λ more follows. ap output_of (wrote.whole more follows) ∙ ap (λ n. record { text = wrote.text; status = n }) (sym is);
+}
+
+-- and a run that wrote a part, which is all of it
+pub wrote_all_part : (c : Configuration) (p faults : ℕ) (before now : SourceView) (w0 w v : Option (List ℕ)) (ending : ScriptEnding) (state : State) → Wrote before now w0 w (script_transcript c) ending state → v ≡ w → WrotePart (Script c p) before now w0 v faults
+wrote_all_part c p faults before now w0 w v ending state wrote same = record {
+  bytes = wrote.bytes;
+  text = wrote.text;
+  failed = [];
+  few = omega arith;
+  came = wrote.came;
+  grew = grows_same w0 w v wrote.text same wrote.grew;
+  begins = λ more follows. record { tail = []; part = ap (λ (o : Out). o.text) (wrote.whole more follows) ∙ sym (append-nil wrote.text) };
+}
+
+-- a script that was cut off is a run that was cut off
+pub wrote_some_part : (c : Configuration) (p faults : ℕ) (before now : SourceView) (w0 w : Option (List ℕ)) → WroteSome before now w0 w (script_transcript c) → WrotePart (Script c p) before now w0 w faults
+wrote_some_part c p faults before now w0 w wrote = record {
+  bytes = wrote.bytes;
+  text = wrote.text;
+  failed = [];
+  few = omega arith;
+  came = wrote.came;
+  grew = wrote.grew;
+  begins = wrote.begins;
+}
+
+-- a status that a flush may have turned into 74, and that tells of a whole text, is as it was
+pub whole_kept : (r status : ℕ) → (r ≡ status) ⊎ (r ≡ 74) → IsWhole r → r ≡ status
+whole_kept r status (inl e) is = e
+whole_kept r status (inr e) (inl z) = absurd (omega arith)
+whole_kept r status (inr e) (inr z) = absurd (omega arith)
+
+-- a count that rose later rose from before too
+pub rose_since : (a m b : ℕ) → a ≤ m → Rose m b → Rose a b
+rose_since a m b later rose = omega arith

@@ -1,0 +1,11 @@
+use Rattle.std.proofs.Common.{◌≢◌, length, arith, sym}
+use Rattle.std.specs.Prelude.{string_bytes}
+use Rattle.std.proofs.lemmas.Bool.Decides.{nat_tests}
+use Rattle.pdqd.proofs.Forms.{no_form_of}
+use Rattle.pdqd.proofs.words.read_words.Goals as goal
+use Rattle.pdqd.proofs.words.read_words.Goals.{in_default-via-then-words-lt6, in_default-via-else-words-lt6+else-words-lt7}
+
+pub returns-in_default-clause-value : goal.returns-in_default-clause-value
+returns-in_default-clause-value c =
+    let differ : length c.args.words.now ≢ 6 = elim c.in_default.branch [ in_default-via-then-words-lt6 w ↦ grind (arith, nat_tests) | in_default-via-else-words-lt6+else-words-lt7 w ↦ grind (arith, nat_tests) ] in
+    sym (no_form_of string_bytes c.args.words.now differ)

@@ -1,0 +1,66 @@
+//! The program: one command, from the words it is given, standard input and standard output. The status is that of `run`.
+#![tactic(auto)]
+
+ghost use Rattle.std.specs.Prelude.{◌≡◌, IfOk, vec_len};
+
+mod run;
+#[cfg(test)]
+mod tests;
+mod words;
+
+use pdq_edge::{Reading, SureFiles, SureSpill, Writing};
+pub use run::run;
+use std::alloc::{AllocError, Global};
+use std::process::ExitCode;
+use std::{env, io};
+
+/// The status where the words cannot be had, as where they are no text.
+const NO_WORDS: u8 = 64;
+
+/// The status for want of memory.
+const NO_MEMORY: u8 = 71;
+
+/// How many stores a run is handed.
+const STORES: usize = 48;
+
+/// The words after the program's name.
+fn words_given(rt: &HostRuntime) -> io::Result<Vec<String>> {
+    let mut words = Vec::new(rt.alloc());
+    for word in env::args(rt)?.skip(1) {
+        words.push(word)?;
+    }
+    Ok(words)
+}
+
+/// The stores for blocks that overflow.
+fn stores_made(alloc: Global) -> Result<Vec<SureSpill>, AllocError>
+    ensures count { IfOk result (λ stores. vec_len stores ≡ 48) }
+{
+    let mut stores = Vec::with_capacity(alloc, STORES)?;
+    for _ in 0..STORES {
+        stores.push(SureSpill::new(alloc))?;
+    }
+    Ok(stores)
+}
+
+fn main(rt: HostRuntime) -> ExitCode {
+    let alloc = rt.alloc();
+    let Ok(words) = words_given(&rt) else {
+        return ExitCode::from(NO_WORDS);
+    };
+    let Ok(mut stores) = stores_made(alloc) else {
+        return ExitCode::from(NO_MEMORY);
+    };
+    let mut files = SureFiles::new(Vec::new(alloc));
+    let mut source = Reading::new(rt.stdin());
+    let mut sink = Writing::new(rt.stdout());
+    ExitCode::from(run(
+        &rt,
+        alloc,
+        &words,
+        &mut files,
+        &mut source,
+        &mut sink,
+        &mut stores,
+    ))
+}

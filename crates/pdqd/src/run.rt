@@ -1,0 +1,150 @@
+//! One command, from the source to the sink.
+ghost use Rattle.std.specs.Prelude.{◌≡◌, ◌≢◌, ◌≤◌, ◌-◌, ◌↔◌, ◌⊎◌, ℕ, None, IfSome, IsTrue, map, string_bytes, sum_by, vec_len};
+ghost use Rattle.pdq_edge.specs.Causes.{Rose};
+ghost use Rattle.pdq_model.specs.State.{opening_state};
+ghost use Rattle.pdq_session.specs.Progress.{source_view};
+ghost use Rattle.pdqd.specs.Words.{form_of};
+ghost use Rattle.pdqd.specs.Run.{IsStatus, IsWhole, IsCutOff, KeepsItsRules, RunsScript, WroteAll, WrotePart};
+
+use crate::words::{Form, read_words};
+use pdq_edge::{Files, Sink, Source, Spill};
+use pdq_frame::Pool;
+use pdq_gate::{Config, Manager};
+use pdq_session::{ScriptEnd, script_in};
+use std::alloc::Global;
+use std::thread::Threads;
+
+/// The words have no form, or a number is out of range.
+const USAGE: u8 = 64;
+
+/// A line has a named fault, which was written last.
+const DATA: u8 = 65;
+
+/// Reading failed.
+const NO_INPUT: u8 = 66;
+
+/// Memory was wanting.
+const NO_MEMORY: u8 = 71;
+
+/// Writing failed.
+const NO_OUTPUT: u8 = 74;
+
+/// A manager without an entry, over a pool of its own; None for want of memory.
+fn manager_of(alloc: Global, config: Config) -> Option<Manager>
+    ensures opening { IfSome result (λ m. m.opening ≡ config) }
+    ensures fresh { IfSome result (λ m. m.state ≡ opening_state config) }
+{
+    let Ok(pool) = Pool::new(alloc, config.frames_per_quantum(), config.max_queries()) else {
+        return None;
+    };
+    match Manager::new(alloc, config, pool) {
+        Ok(manager) => Some(manager),
+        Err(_) => None,
+    }
+}
+
+/// Flushes the sink at the end of a run that has this status.
+fn flushed<Si: Sink>(sink: &mut Si, status: u8) -> u8
+    ensures status { (result ≡ status) ⊎ (result ≡ 74) }
+    ensures written { Si.written sink.new ≡ Si.written sink.old }
+    ensures write { result ≢ status → Rose (Si.faults sink.old) (Si.faults sink.new) }
+    ensures write_later { Si.faults sink.old ≤ Si.faults sink.new }
+{
+    match sink.flush() {
+        Ok(()) => status,
+        Err(_) => NO_OUTPUT,
+    }
+}
+
+/// Runs a script over a manager of its own.
+fn run_script<So: Source, Si: Sink>(
+    alloc: Global,
+    config: Config,
+    source: &mut So,
+    sink: &mut Si,
+) -> ScriptEnd
+    ensures ends { RunsScript result config (source_view So.left So.taken So.ended source.old) (source_view So.left So.taken So.ended source.new) (Si.written sink.old) (Si.written sink.new) }
+    ensures read { result ≡ ScriptEnd.ReadFault → Rose (So.faults source.old) (So.faults source.new) }
+    ensures write { result ≡ ScriptEnd.WriteFault → Rose (Si.faults sink.old) (Si.faults sink.new) }
+    ensures write_later { Si.faults sink.old ≤ Si.faults sink.new }
+{
+    let Some(mut manager) = manager_of(alloc, config) else {
+        return ScriptEnd::Memory;
+    };
+    let end = script_in(alloc, &mut manager, source, sink);
+    drop(manager.end());
+    end
+}
+
+/// Runs a script, flushes the sink, and answers the status.
+fn run_to_status<So: Source, Si: Sink>(
+    alloc: Global,
+    config: Config,
+    source: &mut So,
+    sink: &mut Si,
+) -> u8
+    ensures known { (IsWhole result) ⊎ (IsCutOff result) }
+    ensures whole { (opening faults : ℕ) → IsWhole result → WroteAll (Form.Script config opening)
+        (source_view So.left So.taken So.ended source.old) (source_view So.left So.taken So.ended source.new) (Si.written sink.old) (Si.written sink.new) faults result }
+    ensures part { (opening faults : ℕ) → IsCutOff result → WrotePart (Form.Script config opening)
+        (source_view So.left So.taken So.ended source.old) (source_view So.left So.taken So.ended source.new) (Si.written sink.old) (Si.written sink.new) faults }
+    ensures ended { result ≡ 0 → IsTrue (So.ended source.new) }
+    ensures read { result ≡ 66 → Rose (So.faults source.old) (So.faults source.new) }
+    ensures write { result ≡ 74 → Rose (Si.faults sink.old) (Si.faults sink.new) }
+{
+    match run_script(alloc, config, source, sink) {
+        ScriptEnd::End { store_failed: _ } => flushed(sink, 0),
+        ScriptEnd::BadScript => flushed(sink, DATA),
+        ScriptEnd::ReadFault => NO_INPUT,
+        ScriptEnd::WriteFault => NO_OUTPUT,
+        ScriptEnd::Memory => NO_MEMORY,
+    }
+}
+
+/// Runs the command that the words ask for, from the source to the sink, and answers the status of the program.
+///
+/// The words are those after the program's name, and the stores are 48. Today there is one form, `script T Q S m p`:
+/// DS_TOTAL_MEMORY in KB, DS_MAX_QUERIES, DS_MAX_SCANS, MAX_PDQPRIORITY and the opening priority, each a number of 1 to 7
+/// digits without a leading zero, or 0. The statuses are our own, after those of sysexits.
+pub fn run<R: Threads + Sync, F: Files, So: Source, Si: Sink, Sp: Spill>(
+    _rt: &R,
+    alloc: Global,
+    words: &[String],
+    _files: &mut F,
+    source: &mut So,
+    sink: &mut Si,
+    stores: &mut Vec<Sp>,
+) -> u8
+    requires stores { vec_len stores.old ≡ 48 }
+
+    ensures known { IsStatus result }
+
+    // 64 exactly where the words have no form, or a number is out of range; then nothing was read or written.
+    ensures form { (result ≡ 64) ↔ (form_of (map string_bytes words.now) ≡ None) }
+    ensures unread { result ≡ 64 → So.taken source.new ≡ So.taken source.old }
+    ensures unwritten { result ≡ 64 → Si.written sink.new ≡ Si.written sink.old }
+
+    // With 0 and 65 what was written and the status are those of the words and of the bytes that the source gave, all of them with 0.
+    ensures whole { IsWhole result → IfSome (form_of (map string_bytes words.now)) (λ form. WroteAll form
+        (source_view So.left So.taken So.ended source.old) (source_view So.left So.taken So.ended source.new) (Si.written sink.old) (Si.written sink.new)
+        (sum_by Sp.faults stores.new.items - sum_by Sp.faults stores.old.items) result) }
+    ensures ended { result ≡ 0 → IsTrue (So.ended source.new) }
+
+    // What was written before a fault, or before memory was wanting, begins what would have been written without it.
+    ensures part { IsCutOff result → IfSome (form_of (map string_bytes words.now)) (λ form. WrotePart form
+        (source_view So.left So.taken So.ended source.old) (source_view So.left So.taken So.ended source.new) (Si.written sink.old) (Si.written sink.new)
+        (sum_by Sp.faults stores.new.items - sum_by Sp.faults stores.old.items)) }
+
+    // Whatever the lines, the manager keeps its rules after each of them.
+    ensures lawful { IfSome (form_of (map string_bytes words.now)) KeepsItsRules }
+
+    // A fault has its cause.
+    ensures read { result ≡ 66 → Rose (So.faults source.old) (So.faults source.new) }
+    ensures write { result ≡ 74 → Rose (Si.faults sink.old) (Si.faults sink.new) }
+{
+    let Some(form) = read_words(words) else {
+        return USAGE;
+    };
+    let Form::Script { config, opening: _ } = form;
+    run_to_status(alloc, config, source, sink)
+}
