@@ -1,0 +1,9 @@
+pub mod Closing
+pub mod SplitsCounted
+pub mod History
+pub mod Marks
+pub mod Meets
+pub mod Places
+pub mod Quiet
+pub mod Steps
+pub mod Tickets

@@ -1,0 +1,3 @@
+pub mod LockRule
+pub mod Seats
+pub mod Pass
