@@ -3,11 +3,13 @@ use Rattle.std.proofs.Common.{◌≡◌, ◌∙◌, ℕ, ◌+◌, ◌*◌, ◌�
 use Rattle.std.specs.Prelude.{sum_by, unwrap_or, if◌then◌else◌}
 use Rattle.std.proofs.lemmas.List.Sums.{sum_by-cons, sum_by_push}
 use Rattle.pdq_model.specs.declared.rows.Active.{Active}
+use Rattle.pdq_model.specs.declared.events.Entry.{Entry}
 use Rattle.pdq_model.specs.Configuration.{Configuration, frames_per_quantum}
 use Rattle.pdq_frame.specs.Regions.{RegionView}
 use Rattle.pdq_frame.specs.Pools.{PoolView, given_back}
 use Rattle.pdq_gate.specs.declared.board.Board.{Board}
-use Rattle.pdq_gate.specs.Board.{view_of, frames_in, frames_due, frames_standing, IsSoundBoard}
+use Rattle.pdq_gate.specs.Board.{view_of, frames_in, frames_due, frames_standing}
+use Rattle.pdq_gate.specs.Invariant.{IsSoundBoard}
 use Rattle.pdq_gate.specs.Conservation.{quanta_lent_to, quanta_standing, Conserves}
 
 -- the frames of one query stand in the manager or are lent
@@ -33,12 +35,12 @@ all_frames : (f home standing lent reserved total : ℕ) → reserved + home ≡
 all_frames f home standing lent reserved total quanta rows =
     let whole : (reserved + home) * f ≡ total * f = ap (λ (x : ℕ). x * f) quanta in omega (arith, whole, rows)
 
-pub conserves : (opening : Configuration) (b : Board) → IsSoundBoard b → Conserves (view_of opening b)
-conserves opening b sound =
-    let P : ℕ → Type 0 = λ f. map frames_in b.regions.items ≡ map (frames_due f) b.active.items in
+pub conserves : (opening : Configuration) (b : Board) (history : List Entry) → IsSoundBoard b → Conserves (view_of opening b history)
+conserves opening b history sound =
+    let P : ℕ → Type 0 = λ f. map frames_in b.regions.items ≡ map (frames_due f) b.active in
     let step = subst P sound.per_quantum sound.regions in record {
       quanta = sound.quanta;
-      frames = all_frames (frames_per_quantum b.config) b.pool.home (frames_standing b.regions.items) (sum_by quanta_lent_to b.active.items) (sum_by (λ (a : Active). a.quanta) b.active.items) b.config.max_queries sound.quanta (all_rows (frames_per_quantum b.config) b.regions.items b.active.items step);
+      frames = all_frames (frames_per_quantum b.config) b.pool.home (frames_standing b.regions.items) (sum_by quanta_lent_to b.active) (sum_by (λ (a : Active). a.quanta) b.active) b.config.max_queries sound.quanta (all_rows (frames_per_quantum b.config) b.regions.items b.active step);
       scans = sound.model.scans;
       active = sound.model.few_active;
       overtaken = λ k d within. (sound.model.waiting k d within).overtaken;

@@ -1,4 +1,3 @@
-pub mod OrderLaws
 pub mod Lookups
 pub mod Settling
 pub mod Quiet
@@ -7,3 +6,6 @@ pub mod Granting
 pub mod Conserving
 pub mod Shown
 pub mod Admitting
+pub mod JournalLaws
+pub mod Ranks
+pub mod Ranked

@@ -1,7 +1,7 @@
 -- The first of a list that passes a test, and where it stands.
-use Rattle.std.proofs.Common.{◌≡◌, ◌∙◌, ℕ, zero, suc, ◌+◌, ◌<◌, List, [], ◌∷◌, ◌++◌, None, Some, Bool, true, false, cond, length, refl, sym, ap, arith}
-use Rattle.std.specs.Prelude.{IsSome, ◌&&◌, find, position, remove, slice_get, slice_set, nat_lt}
-use Rattle.std.specs.List.{position_or_len}
+use Rattle.std.proofs.Common.{◌≡◌, ◌∙◌, ℕ, zero, suc, ◌+◌, ◌<◌, List, [], ◌∷◌, ◌++◌, Option, None, Some, Bool, true, false, cond, length, refl, sym, ap, arith}
+use Rattle.std.specs.Prelude.{IsSome, ◌&&◌, ◌||◌, is_some, find, position, remove, slice_get, slice_set, nat_lt}
+use Rattle.std.specs.List.{list_any, position_or_len}
 use Rattle.std.proofs.lemmas.Bool.{false≢true, lt-ltb}
 use Rattle.std.proofs.lemmas.List.Folds.{find_at}
 use Rattle.std.proofs.lemmas.Bool.Decides.{nat_tests}
@@ -82,3 +82,19 @@ module _ {X : Type 0} (p : X → Bool) where
       go true e =
           let row = row_at xs (position_or_len p xs) (grind (arith, nat_tests)) in absurd (none-some row.0 (sym none ∙ find_at p xs ∙ row.1))
       go false e = refl
+
+  -- one passes where the first has a place
+  any_found : (xs : List X) → list_any p xs ≡ is_some (find p xs)
+  any_found [] = refl
+  any_found (x ∷ xs) = go (p x) (any_found xs)
+    where
+      go : (b : Bool) → list_any p xs ≡ is_some (find p xs) → (b || list_any p xs) ≡ is_some (cond b (Some x) (find p xs))
+      go true rest = refl
+      go false rest = rest
+
+  pub any_place : (xs : List X) → list_any p xs ≡ is_some (position p xs)
+  any_place xs = any_found xs ∙ go (find p xs) refl
+    where
+      go : (o : Option X) → find p xs ≡ o → is_some o ≡ is_some (position p xs)
+      go None e = rw (place_none xs e) refl
+      go (Some x) e = rw (place_found xs x e) refl

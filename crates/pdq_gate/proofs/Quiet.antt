@@ -4,19 +4,19 @@ use Rattle.std.specs.Prelude.{◌==◌, if◌then◌else◌, slice_get, slice_se
 use Rattle.pdq_model.specs.declared.rows.Waiting.{Waiting}
 use Rattle.pdq_model.specs.declared.rows.Active.{Active}
 use Rattle.pdq_model.specs.declared.rows.Session.{Session}
-use Rattle.pdq_model.specs.declared.rows.Pending.{Pending}
 use Rattle.pdq_model.specs.declared.events.Event.TheVariants.{OpenSession, Collect}
 use Rattle.pdq_model.specs.State.{State, next_session}
 use Rattle.pdq_model.specs.Order.{head_place}
 use Rattle.pdq_model.specs.Gates.{refusing_gate}
-use Rattle.pdq_model.specs.Settling.{admit, admit_all, admit_if, admit_head, take_if_idle, settle, IsSettled}
-use Rattle.pdq_model.specs.Step.{changed, changed_at, entered, collected, active_place}
+use Rattle.pdq_model.specs.Settling.{admit, admit_if, admit_head, settle, IsSettled}
+use Rattle.pdq_model.specs.Step.{changed, changed_at, entered, collected, active_place, withdrawn_place, without}
+use Rattle.pdq_model.specs.Laws.{counted}
 use Rattle.pdq_gate.specs.declared.board.Board.{Board}
 use Rattle.pdq_gate.specs.Board.{state_of}
-use Rattle.pdq_gate.specs.Queries.{with_collected}
+use Rattle.pdq_gate.specs.Queries.{with_collected, with_fetched}
 use Rattle.std.proofs.lemmas.List.{length-set}
-use Rattle.pdq_model.proofs.Soundness.{heads_none}
 use Rattle.pdq_model.proofs.Lists.{sum_by_changed}
+use Rattle.pdq_gate.proofs.Settling.{settle_settled}
 
 -- where two choices are made by the same value, and one never gives anything, nor does the other
 none_too : {X Y : Type 0} (o : Option X) (f g : X → Option Y) → ((x : X) → f x ≡ None → g x ≡ None) → option_and_then f o ≡ None → option_and_then g o ≡ None
@@ -41,14 +41,6 @@ settled_too s t same active pending gates settled = record {
   changed = λ idle. pending ∙ settled.changed (sym active ∙ idle);
 }
 
-take_none : (s : State) (o : Option Pending) → o ≡ None → take_if_idle s o ≡ s
-take_none s o none = rw none refl
-
--- where no change is pending and no head can be admitted, settling is done
-pub settle_none : (s : State) → s.pending ≡ None → admit_head s ≡ None → settle s ≡ s
-unfolding settle
-settle_none s pending none = ap admit_all (take_none s s.pending pending) ∙ heads_none s (length s.waiting) none
-
 -- a session that is opened changes no gate
 opened_gates : (s : State) (sessions : List Session) (opened entries : ℕ) (w : Waiting) → refusing_gate (record s { sessions = sessions; opened = opened; entries = entries }) w ≡ refusing_gate s w
 unfolding refusing_gate
@@ -57,18 +49,38 @@ opened_gates s sessions opened entries w = refl
 pub settled_opened : (s : State) (sessions : List Session) (opened entries : ℕ) → IsSettled s → IsSettled (record s { sessions = sessions; opened = opened; entries = entries })
 settled_opened s sessions opened entries settled = settled_too s (record s { sessions = sessions; opened = opened; entries = entries }) refl refl refl (opened_gates s sessions opened entries) settled
 
-pub enters_session : (s : State) (sessions : List Session) (admin : Bool) → IsSettled s → s.pending ≡ None → sessions ≡ s.sessions ++ record { number = next_session s; admin = admin } ∷ [] → record s { sessions = sessions; opened = s.opened + 1; entries = s.entries + 1 } ≡ entered s (next_session s) (OpenSession admin)
-enters_session s sessions admin settled pending pushed =
+pub enters_session : (s : State) (sessions : List Session) (admin : Bool) → IsSettled s → sessions ≡ s.sessions ++ record { number = next_session s; admin = admin } ∷ [] → record s { sessions = sessions; opened = s.opened + 1; entries = s.entries + 1 } ≡ entered s (next_session s) (OpenSession admin)
+enters_session s sessions admin settled pushed =
     let t : State = record (changed s (next_session s) (OpenSession admin)) { entries = s.entries + 1 } in
     ap (λ (xs : List Session). record s { sessions = xs; opened = s.opened + 1; entries = s.entries + 1 }) pushed
-    ∙ sym (settle_none t pending (settled_opened s t.sessions t.opened t.entries settled).heads)
+    ∙ sym (settle_settled t (settled_opened s t.sessions t.opened t.entries settled))
 
 collected_at : (rows : List Active) (o : Option ℕ) (place : ℕ) (a : Active) → o ≡ Some place → slice_get rows place ≡ Some a → changed_at collected rows o ≡ slice_set rows place (collected a)
 collected_at rows o place a at there = rw (at, there) refl
 
 -- what a grant changes
-pub collects : (b : Board) (who id place : ℕ) (a : Active) → active_place (state_of b) who id ≡ Some place → slice_get b.active.items place ≡ Some a → record (changed (state_of b) who (Collect id)) { entries = b.entries + 1 } ≡ with_collected (state_of b) place a
-collects b who id place a at there = ap (λ (rows : List Active). record (state_of b) { active = rows; entries = b.entries + 1 }) (collected_at b.active.items (active_place (state_of b) who id) place a at there)
+pub collects : (b : Board) (who id place : ℕ) (a : Active) → active_place (state_of b) who id ≡ Some place → slice_get b.active place ≡ Some a → withdrawn_place (state_of b) who id ≡ None → counted (state_of b) who (Collect id) ≡ with_collected (state_of b) place a
+collects b who id place a at there gone =
+    ap (λ (rows : List Active). record (state_of b) { active = rows; withdrawn = without b.withdrawn.items (withdrawn_place (state_of b) who id); entries = b.entries + 1 }) (collected_at b.active (active_place (state_of b) who id) place a at there)
+    ∙ ap (λ o. record (state_of b) { active = slice_set b.active place (collected a); withdrawn = without b.withdrawn.items o; entries = b.entries + 1 }) gone
+
+-- what changes where a withdrawn query is collected
+pub fetches : (b : Board) (who id place : ℕ) → active_place (state_of b) who id ≡ None → withdrawn_place (state_of b) who id ≡ Some place → counted (state_of b) who (Collect id) ≡ with_fetched (state_of b) place
+fetches b who id place idle at =
+    ap (λ o. record (state_of b) { active = changed_at collected b.active o; withdrawn = without b.withdrawn.items (withdrawn_place (state_of b) who id); entries = b.entries + 1 }) idle
+    ∙ ap (λ o. record (state_of b) { withdrawn = without b.withdrawn.items o; entries = b.entries + 1 }) at
+
+-- no gate sees the withdrawn queries
+fetched_gates : (s : State) (place : ℕ) (w : Waiting) → refusing_gate (with_fetched s place) w ≡ refusing_gate s w
+unfolding refusing_gate
+fetched_gates s place w = refl
+
+pub settled_fetched : (s : State) (place : ℕ) → IsSettled s → IsSettled (with_fetched s place)
+settled_fetched s place settled = settled_too s (with_fetched s place) refl refl refl (fetched_gates s place) settled
+
+pub enters_fetched : (b : Board) (who id place : ℕ) → IsSettled (state_of b) → active_place (state_of b) who id ≡ None → withdrawn_place (state_of b) who id ≡ Some place → entered (state_of b) who (Collect id) ≡ with_fetched (state_of b) place
+enters_fetched b who id place settled idle at =
+    ap settle (fetches b who id place idle at) ∙ settle_settled (with_fetched (state_of b) place) (settled_fetched (state_of b) place settled)
 
 same_sum : (f : Active → ℕ) (rows : List Active) (place : ℕ) (a b : Active) → slice_get rows place ≡ Some a → f b ≡ f a → sum_by f (slice_set rows place b) ≡ sum_by f rows
 same_sum f rows place a b there same = omega (arith, sum_by_changed f rows place a b there)
@@ -82,6 +94,6 @@ pub settled_collected : (s : State) (place : ℕ) (a : Active) → slice_get s.a
 settled_collected s place a there settled = settled_too s (with_collected s place a) refl (length-set s.active place (collected a)) refl (collected_gates s place a there) settled
 
 -- so a grant admits nobody
-pub enters_grant : (b : Board) (who id place : ℕ) (a : Active) → IsSettled (state_of b) → active_place (state_of b) who id ≡ Some place → slice_get b.active.items place ≡ Some a → entered (state_of b) who (Collect id) ≡ with_collected (state_of b) place a
-enters_grant b who id place a settled at there =
-    ap settle (collects b who id place a at there) ∙ settle_none (with_collected (state_of b) place a) refl (settled_collected (state_of b) place a there settled).heads
+pub enters_grant : (b : Board) (who id place : ℕ) (a : Active) → IsSettled (state_of b) → active_place (state_of b) who id ≡ Some place → slice_get b.active place ≡ Some a → withdrawn_place (state_of b) who id ≡ None → entered (state_of b) who (Collect id) ≡ with_collected (state_of b) place a
+enters_grant b who id place a settled at there gone =
+    ap settle (collects b who id place a at there gone) ∙ settle_settled (with_collected (state_of b) place a) (settled_collected (state_of b) place a there settled)

@@ -1,81 +1,85 @@
 -- Waiting queries as a status shows them, in the written order.
-use Rattle.std.proofs.Common.{◌≡◌, ◌∙◌, ℕ, zero, suc, ◌+◌, ◌<◌, ◌≤◌, List, [], ◌∷◌, Bool, true, false, cond, length, get_or, drop, map, refl, sym, ap, arith, add-one, length-drop, drop-cons}
-use Rattle.std.specs.Prelude.{Some, None, insert, not, nat_lt, position, unwrap_or, if◌then◌else◌}
-use Rattle.std.specs.List.{position_or_len}
-use Rattle.std.proofs.lemmas.Bool.Decides.{nat_tests}
-use Rattle.std.proofs.lemmas.List.{length-map}
-use Rattle.std.proofs.lemmas.List.Sums.{prefix_len-le-length}
+use Rattle.std.proofs.Common.{ℕ, suc, ◌≡◌, List, [], ◌∷◌, Some, true, false, get_or, map, refl, sym, ap, ◌∙◌, arith}
+use Rattle.std.specs.Prelude.{⊤, IfSome, ◌==◌, All, Contains, is_some, nat_lt, slice_get, if◌then◌else◌}
+use Rattle.std.specs.List.{prefix_len}
+use Rattle.std.proofs.lemmas.Bool.{both_ways, eq-eqb, ne_eqb}
+use Rattle.std.proofs.lemmas.List.Sorted.{Contains-permutation, IsPermutation-sym}
+use Rattle.std.proofs.lemmas.Option.{MatchOption-at_some, same_Some, slice_get-get_or, slice_get_within, get_or_from_slice_get}
 use Rattle.pdq_model.specs.declared.rows.Waiting.{Waiting}
-use Rattle.pdq_model.specs.declared.rows.WaitingRow.{WaitingRow}
 use Rattle.pdq_model.specs.State.{State}
-use Rattle.pdq_model.specs.Order.{is_before, put_in_order, waiting_order}
+use Rattle.pdq_model.specs.Order.{is_before, head_of, head_place, waiting_order}
+use Rattle.pdq_model.specs.Gates.{gate_at, gate_of, refusing_gate, waiting_place}
 use Rattle.pdq_model.specs.StatusView.{waiting_shown}
-use Rattle.pdq_gate.specs.Showing.{goes_before}
+use Rattle.pdq_model.proofs.Heads.{before_itself}
+use Rattle.pdq_model.proofs.WrittenOrder.{permutation_order, written_order}
+use Rattle.pdq_gate.specs.Showing.{row_shown}
+use Rattle.pdq_gate.specs.Ranks.{AreRising, rows_in_order}
+use Rattle.pdq_gate.proofs.Ranks.{own_from_rising}
+use Rattle.pdq_gate.proofs.Ranked.{both_found, found_at, head_from_first, map_agree, number_found}
 
-insert_more : {X : Type 0} (x : X) (xs : List X) (n : ℕ) (y : X) → insert (x ∷ xs) (1 + n) y ≡ x ∷ insert xs n y
-insert_more x xs n y = let next : 1 + n ≡ suc n = omega arith in rw next refl
+-- where a query of the written order waits
+record Waits (s : State) (w : Waiting) : Type 0 where
+  place : ℕ
+  there : slice_get s.waiting place ≡ Some w
+  found : waiting_place s w.session w.id ≡ Some place
 
--- a query is put at the first place that it is before
-put_at : (w : Waiting) (ws : List Waiting) → put_in_order w ws ≡ insert ws (position_or_len (is_before w) ws) w
-put_at w [] = refl
-put_at w (v ∷ vs) = go (is_before w v) refl (put_at w vs)
+waits_at : (s : State) (j : ℕ) (w : Waiting) → AreRising s.waiting → slice_get (waiting_order s.waiting) j ≡ Some w → Waits s w
+waits_at s j w rising at = record {
+  place = c.0;
+  there = there;
+  found = both_found s.waiting w.session w.id c.0 w (number_found s.waiting w.id w (ap (slice_get s.waiting) here ∙ there) refl ∙ ap Some here) there refl;
+}
   where
-    go : (b : Bool) → is_before w v ≡ b → put_in_order w vs ≡ insert vs (position_or_len (is_before w) vs) w → put_in_order w (v ∷ vs) ≡ insert (v ∷ vs) (position_or_len (is_before w) (v ∷ vs)) w
-    go true e rest = rw e refl
-    go false e rest = rw e (ap (λ xs. v ∷ xs) rest ∙ sym (insert_more v vs (position_or_len (is_before w) vs) w))
+    c : Contains s.waiting w
+    c = Contains-permutation (waiting_order s.waiting) s.waiting w (IsPermutation-sym s.waiting (waiting_order s.waiting) (permutation_order s.waiting)) (j, slice_get_within (waiting_order s.waiting) j w at, get_or_from_slice_get (waiting_order s.waiting) j w w at)
 
--- which is the same place among the rows
-same_place : (s : State) (w : Waiting) (ws : List Waiting) → position_or_len (goes_before w) (map (waiting_shown s) ws) ≡ position_or_len (is_before w) ws
-same_place s w [] = refl
-same_place s w (v ∷ vs) = ap (λ n. cond (not (is_before w v)) (1 + n) 0) (same_place s w vs)
+    there : slice_get s.waiting c.0 ≡ Some w
+    there = slice_get-get_or s.waiting c.0 w c.1 ∙ ap Some c.2
 
-map_insert : {X Y : Type 0} (f : X → Y) (xs : List X) (i : ℕ) (x : X) → map f (insert xs i x) ≡ insert (map f xs) i (f x)
-map_insert f xs zero x = refl
-map_insert f [] (suc i) x = refl
-map_insert f (y ∷ ys) (suc i) x = ap (λ zs. f y ∷ zs) (map_insert f ys i x)
+    here : prefix_len (λ (v : Waiting). nat_lt v.id w.id) s.waiting ≡ c.0
+    here = found_at s.waiting c.0 w rising there
 
-pub put_shown : (s : State) (w : Waiting) (ws : List Waiting) → map (waiting_shown s) (put_in_order w ws) ≡ insert (map (waiting_shown s) ws) (position_or_len (goes_before w) (map (waiting_shown s) ws)) (waiting_shown s w)
-put_shown s w ws = ap (map (waiting_shown s)) (put_at w ws) ∙ map_insert (waiting_shown s) ws (position_or_len (is_before w) ws) w ∙ ap (λ n. insert (map (waiting_shown s) ws) n (waiting_shown s w)) (sym (same_place s w ws))
+gate_there : (s : State) (w : Waiting) (at : Waits s w) → gate_of s w.session w.id ≡ gate_at s at.place w
+gate_there s w at = rw (at.found, at.there) refl
 
--- the queries from this place on are shown
-pub record AreShown (s : State) (left : ℕ) (rows : List WaitingRow) (capacity : ℕ) : Type 0 where
-  pub within : left ≤ length s.waiting
-  pub rows_are : rows ≡ map (waiting_shown s) (waiting_order (drop left s.waiting))
-  pub room : 1024 ≤ capacity
+-- the first is the head
+gate_first : (s : State) (w : Waiting) → AreRising s.waiting → slice_get (waiting_order s.waiting) 0 ≡ Some w → gate_of s w.session w.id ≡ refusing_gate s w
+gate_first s w rising first =
+    let at = waits_at s 0 w rising first in
+    let head : head_place s.waiting ≡ Some at.place = head_from_first s.waiting at.place w rising first at.there in
+    gate_there s w at ∙ rw (head, eq-eqb at.place at.place refl) refl
 
-length_put : (w : Waiting) (ws : List Waiting) → length (put_in_order w ws) ≡ suc (length ws)
-length_put w [] = refl
-length_put w (v ∷ vs) = go (is_before w v) (length_put w vs)
+-- and the others are not
+gate_later : (s : State) (w v : Waiting) (j : ℕ) → AreRising s.waiting → slice_get (waiting_order s.waiting) 0 ≡ Some w → slice_get (waiting_order s.waiting) (suc j) ≡ Some v → gate_of s v.session v.id ≡ (if is_some s.pending then 5 else 3)
+gate_later s w v j rising first later =
+    let head_at = waits_at s 0 w rising first in
+    let at = waits_at s (suc j) v rising later in
+    let head : head_place s.waiting ≡ Some head_at.place = head_from_first s.waiting head_at.place w rising first head_at.there in
+    let before : is_before w v ≡ true = ahead in
+    let apart : (head_at.place == at.place) ≡ false = ne_eqb head_at.place at.place (λ same. both_ways (is_before w w) (before_itself w) (ap (is_before w) (same_Some w v (sym head_at.there ∙ ap (slice_get s.waiting) same ∙ at.there)) ∙ before)) in
+    gate_there s v at ∙ rw (head, apart) refl
   where
-    go : (b : Bool) → length (put_in_order w vs) ≡ suc (length vs) → length (if b then w ∷ v ∷ vs else v ∷ put_in_order w vs) ≡ suc (length (v ∷ vs))
-    go true rest = refl
-    go false rest = ap suc rest
+    ahead : is_before w v ≡ true
+    ahead =
+        sym (ap (λ (x : Waiting). is_before x v) (get_or_from_slice_get (waiting_order s.waiting) 0 w v first))
+        ∙ sym (ap (λ (x : Waiting). is_before (get_or (waiting_order s.waiting) 0 v) x) (get_or_from_slice_get (waiting_order s.waiting) (suc j) v v later))
+        ∙ (written_order s.waiting (own_from_rising s.waiting rising)).order 0 (suc j) v (omega arith) (slice_get_within (waiting_order s.waiting) (suc j) v later)
 
-length_ordered : (ws : List Waiting) → length (waiting_order ws) ≡ length ws
-length_ordered [] = refl
-length_ordered (w ∷ ws) = length_put w (waiting_order ws) ∙ ap suc (length_ordered ws)
-
-pub rows_shown : (s : State) (left : ℕ) (rows : List WaitingRow) (capacity : ℕ) → AreShown s left rows capacity → length rows + left ≡ length s.waiting
-rows_shown s left rows capacity shown =
-    let within = shown.within in
-    omega (arith, ap length shown.rows_are, length-map (waiting_order (drop left s.waiting)) (waiting_shown s), length_ordered (drop left s.waiting), length-drop left s.waiting, within)
-
--- one more query is shown
-pub shown_more : (s : State) (k left : ℕ) (rows new : List WaitingRow) (capacity room : ℕ) (w d : Waiting) → k + 1 ≡ left → AreShown s left rows capacity → w ≡ get_or s.waiting k d → capacity ≤ room → new ≡ insert rows (position_or_len (goes_before w) rows) (waiting_shown s w) → AreShown s k new room
-shown_more s k left rows new capacity room w d next shown row more put =
-    let within : k < length s.waiting = omega (arith, shown.within) in
-    let split : drop k s.waiting ≡ w ∷ drop left s.waiting = drop-cons s.waiting k d within ∙ rw (row, ← next, add-one) refl in
-    record {
-      within = omega arith;
-      rows_are = put ∙ ap (λ rs. insert rs (position_or_len (goes_before w) rs) (waiting_shown s w)) shown.rows_are ∙ sym (put_shown s w (waiting_order (drop left s.waiting))) ∙ sym (ap (λ ws. map (waiting_shown s) (waiting_order ws)) split);
-      room = omega (arith, shown.room);
-    }
-
-pub place_or_length : {X : Type 0} (p : X → Bool) (xs : List X) → unwrap_or (position p xs) (length xs) ≡ position_or_len p xs
-place_or_length p xs = go (nat_lt (position_or_len p xs) (length xs)) refl
+-- the rows that are shown are those of a status
+pub shown_in_order : (s : State) (first others : ℕ) → AreRising s.waiting → IfSome (head_of s.waiting) (λ w. first ≡ refusing_gate s w) → others ≡ (if is_some s.pending then 5 else 3) → rows_in_order first others (waiting_order s.waiting) ≡ map (waiting_shown s) (waiting_order s.waiting)
+shown_in_order s first others rising head rest = go (waiting_order s.waiting) refl
   where
-    go : (b : Bool) → nat_lt (position_or_len p xs) (length xs) ≡ b → unwrap_or (cond b (Some (position_or_len p xs)) None) (length xs) ≡ position_or_len p xs
-    go true e = refl
-    go false e =
-        let most = prefix_len-le-length (λ x. not (p x)) xs in
-        let least : length xs ≤ position_or_len p xs = grind (arith, nat_tests) in omega arith
+    is_head_of : {w : Waiting} (at : Waits s w) → head_place s.waiting ≡ Some at.place → head_of s.waiting ≡ Some w
+    is_head_of at place = rw place at.there
+
+    go : (ws : List Waiting) → waiting_order s.waiting ≡ ws → rows_in_order first others ws ≡ map (waiting_shown s) ws
+    go [] e = refl
+    go (w ∷ ws) e =
+        let start : slice_get (waiting_order s.waiting) 0 ≡ Some w = ap (λ (vs : List Waiting). slice_get vs 0) e in
+        let at = waits_at s 0 w rising start in
+        let gate : first ≡ gate_of s w.session w.id = MatchOption-at_some ⊤ (λ (v : Waiting). first ≡ refusing_gate s v) w (is_head_of at (head_from_first s.waiting at.place w rising start at.there)) head ∙ sym (gate_first s w rising start) in
+        let one : row_shown w first ≡ waiting_shown s w = ap (row_shown w) gate in
+        let each : All (λ v. row_shown v others ≡ waiting_shown s v) ws = λ k d within.
+        ap (row_shown (get_or ws k d)) (rest ∙ sym (gate_later s w (get_or ws k d) k rising start (ap (λ (vs : List Waiting). slice_get vs (suc k)) e ∙ slice_get-get_or ws k d within))) in
+        let more : map (λ v. row_shown v others) ws ≡ map (waiting_shown s) ws = map_agree (λ v. row_shown v others) (waiting_shown s) ws each in
+        cc

@@ -5,7 +5,7 @@ use Rattle.std.proofs.lemmas.Grind.{common_steps}
 use Rattle.pdq_frame.proofs.Quanta.{none_over, quanta_are}
 use Rattle.pdq_model.specs.declared.rows.Active.{Active}
 use Rattle.pdq_model.specs.Configuration.{Configuration, IsValid, frames_per_quantum}
-use Rattle.pdq_model.specs.Step.{collected}
+use Rattle.pdq_model.specs.Step.{collected, flagged_at}
 use Rattle.pdq_frame.specs.Regions.{RegionView}
 use Rattle.pdq_gate.specs.Board.{frames_in, frames_due}
 use Rattle.pdq_gate.specs.Conservation.{quanta_standing}
@@ -82,3 +82,17 @@ standing_frames f r a due = go a.collected due
     go : (c : Bool) → Some r.frames ≡ (if c then None else Some (a.quanta * f)) → r.frames ≡ (if c then 0 else a.quanta) * f
     go true e = cc
     go false e = cc
+
+set_same : {X : Type 0} (xs : List X) (k : ℕ) (x : X) → slice_get xs k ≡ Some x → slice_set xs k x ≡ xs
+set_same [] k x there = refl
+set_same (y ∷ ys) zero x there = let e : x ≡ y = cc in ap (λ z. z ∷ ys) e
+set_same (y ∷ ys) (suc k) x there = ap (λ zs. y ∷ zs) (set_same ys k x there)
+
+get_mapped : {X Y : Type 0} (g : X → Y) (xs : List X) (k : ℕ) (x : X) → slice_get xs k ≡ Some x → slice_get (map g xs) k ≡ Some (g x)
+get_mapped g [] k x there = cc
+get_mapped g (y ∷ ys) zero x there = let e : y ≡ x = cc in ap (λ z. Some (g z)) e
+get_mapped g (y ∷ ys) (suc k) x there = get_mapped g ys k x there
+
+-- a query that is flagged has its region as before
+pub step_flagged : (f : ℕ) (regions : List (Option RegionView)) (active : List Active) (k step : ℕ) (a : Active) → slice_get active k ≡ Some a → map frames_in regions ≡ map (frames_due f) active → map frames_in regions ≡ map (frames_due f) (slice_set active k (flagged_at step a))
+step_flagged f regions active k step a there due = due ∙ sym (set_same (map (frames_due f) active) k (frames_due f a) (get_mapped (frames_due f) active k a there)) ∙ sym (map_set (frames_due f) active k (flagged_at step a))

@@ -4,3 +4,9 @@ pub mod Conservation
 pub mod Answers
 pub mod Board
 pub mod Showing
+pub mod Changes
+pub mod Journal
+pub mod Invariant
+pub mod Roster
+pub mod Ranks
+pub mod Queue

@@ -1,7 +1,10 @@
 //! What the calls of the manager answer. A `step` is the number of entries in the journal after the call.
 
+ghost use Rattle.std.specs.Prelude.{◌≡◌};
+ghost use Rattle.pdq_gate.specs.Answers.{answer_of_collected, cancel_answer, change_answer};
+
 use pdq_frame::Region;
-use pdq_model::Why;
+use pdq_model::{Answer, Reply, Why};
 
 /// A call was refused, and changed nothing.
 #[derive(Clone, Copy, Debug, PartialEq, Eq)]
@@ -55,4 +58,64 @@ pub enum Collected {
         by: u64,
         step: u64,
     },
+}
+
+impl Collected {
+    /// The answer that this tells.
+    pub(crate) fn answer(&self) -> Answer
+        ensures value { result ≡ answer_of_collected self.now }
+    {
+        match self {
+            Collected::Granted {
+                region: _,
+                quanta,
+                scans,
+                priority,
+                flagged,
+                step: _,
+            } => Answer::Entered(Reply::Granted {
+                quanta: *quanta,
+                scans: *scans,
+                priority: *priority,
+                flagged: *flagged,
+            }),
+            Collected::Waiting { gate, step: _ } => Answer::Waits(*gate),
+            Collected::Cancelled { by, step: _ } => Answer::Entered(Reply::Cancelled { by: *by }),
+        }
+    }
+}
+
+/// A query was cancelled: it was active and is flagged now, or it waited and is withdrawn.
+#[derive(Clone, Copy, Debug, PartialEq, Eq)]
+pub struct Cancelled {
+    pub active: bool,
+    pub step: u64,
+}
+
+/// A parameter was changed; `pending` says that the change waits until no query is active.
+#[derive(Clone, Copy, Debug, PartialEq, Eq)]
+pub struct Changed {
+    pub pending: bool,
+    pub step: u64,
+}
+
+/// The answer to a cancellation: whether the query is active, or why it was refused.
+pub(crate) fn cancel_answer(outcome: Result<bool, Why>) -> Answer
+    ensures value { result ≡ cancel_answer outcome }
+{
+    match outcome {
+        Ok(true) => Answer::Entered(Reply::Flagged),
+        Ok(false) => Answer::Entered(Reply::Withdrawn),
+        Err(why) => Answer::Refuses(why),
+    }
+}
+
+/// The answer to a change: whether it waits, or why it was refused.
+pub(crate) fn change_answer(outcome: Result<bool, Why>) -> Answer
+    ensures value { result ≡ change_answer outcome }
+{
+    match outcome {
+        Ok(pending) => Answer::Entered(Reply::Changed { pending }),
+        Err(why) => Answer::Refuses(why),
+    }
 }

@@ -3,13 +3,23 @@
 
 mod answers;
 mod board;
+mod cancelling;
+mod changes;
+mod changing;
+mod collecting;
+mod finishing;
+mod journal;
 mod manager;
 mod order;
+mod queue;
+mod roster;
+mod sessions;
 mod status;
 #[cfg(test)]
 mod tests;
 
-pub use answers::{Collected, Opened, Refused, Submitted};
+pub use answers::{Cancelled, Changed, Collected, Opened, Refused, Submitted};
+pub use changes::Change;
 pub use manager::Manager;
 pub use pdq_model::{
     Active, ActiveRow, Admit, Answer, Config, Entry, Event, How, Pending, Reply, Session, Setting,

@@ -22,7 +22,7 @@ use Rattle.pdq_model.specs.Gates.{waiting_place}
 use Rattle.pdq_model.specs.Settling.{admit, settle, take_pending, take_if_idle, with_pending, admitted_row, admit_of, admits, Admissions, IsSettled}
 use Rattle.pdq_model.specs.Settling.Admissions.{no_more, first_then}
 use Rattle.pdq_model.specs.Step.{changed, admitted_after, decide, next, after_answer, is_entered, answer_to_collect, active_row, withdrawn_of, owner_of, may_cancel, is_flagged, is_withdrawn, is_waiting}
-use Rattle.pdq_model.specs.History.{IsLegal, IsLegalFrom, MayOccur, state_after, replay}
+use Rattle.pdq_model.specs.History.{IsLegal, IsLegalFrom, IsReplyTo, MayOccur, state_after, replay}
 use Rattle.pdq_model.specs.Soundness.{IsSound}
 use Rattle.pdq_model.specs.Laws.{counted, HoldsAlways, IsWithinLimits, LimitsAreKept, IsAtRest, EntriesSettle, AdmitsHeads, rows_admitted, OnlyHeadsAreAdmitted, IsOvertakenLittle, OvertakingIsBounded, IsReserved, HasRoom, JournalHasRoom}
 use Rattle.pdq_model.proofs.Soundness.{sound_opening, sound_next, head_admits, no_head}
@@ -133,7 +133,7 @@ pub entries_settled : (s : State) → (settle s).entries ≡ s.entries
 entries_settled s = (grown_by_admissions (take_pending s) (settle s) (settling_admits s)).entries ∙ entries_taken s s.pending
 
 -- an entry is one
-entries_after : (s : State) (who : ℕ) (event : Event) (answer : Answer) → is_entered answer ≡ true → (after_answer s who event answer).entries ≡ s.entries + 1
+pub entries_after : (s : State) (who : ℕ) (event : Event) (answer : Answer) → is_entered answer ≡ true → (after_answer s who event answer).entries ≡ s.entries + 1
 entries_after s who event (Entered r) e = entries_settled (counted s who event)
 entries_after s who event Outside e = absurd (false≢true e)
 entries_after s who event (Waits gate) e = absurd (false≢true e)
@@ -175,3 +175,12 @@ has_room s sound = record {
 
 pub journal_has_room : JournalHasRoom
 journal_has_room = always_from_sound HasRoom has_room
+
+-- one more entry of a legal history
+pub legal_then : (s : State) (history : List Entry) (e : Entry) → IsLegalFrom s history → MayOccur (state_after s history) e.session e.event → IsReplyTo (state_after s history) e.session e.event e.reply → IsLegalFrom s (history ++ e ∷ [])
+legal_then s [] e legal may replied = (may, replied, tt)
+legal_then s (first ∷ history) e legal may replied = (legal.0, legal.1, legal_then (next s first.session first.event) history e legal.2 may replied)
+
+pub state_then : (s : State) (history : List Entry) (e : Entry) → state_after s (history ++ e ∷ []) ≡ next (state_after s history) e.session e.event
+state_then s [] e = refl
+state_then s (first ∷ history) e = state_then (next s first.session first.event) history e

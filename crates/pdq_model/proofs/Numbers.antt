@@ -31,7 +31,7 @@ use Rattle.pdq_model.proofs.Heads.{settling_admits, before_by, none_ahead, some_
 use Rattle.pdq_model.proofs.Histories.{after_history}
 
 -- a change of the rows that the sum does not see
-sum_by_same : {X : Type 0} (f : X → ℕ) (g : X → X) → ((x : X) → f (g x) ≡ f x) → (xs : List X) → sum_by f (map g xs) ≡ sum_by f xs
+pub sum_by_same : {X : Type 0} (f : X → ℕ) (g : X → X) → ((x : X) → f (g x) ≡ f x) → (xs : List X) → sum_by f (map g xs) ≡ sum_by f xs
 sum_by_same f g same [] = refl
 sum_by_same f g same (x ∷ xs) = omega (arith, sum_by-cons f (g x) (map g xs), sum_by-cons f x xs, same x, sum_by_same f g same xs)
 
@@ -111,7 +111,7 @@ left_out f xs (Some k) = go (cases_lt k (length xs))
     go (inl within) = let row = row_at xs k within in omega (arith, sum_by_without f xs k row.0 row.1)
     go (inr past) = omega (arith, ap (sum_by f) (remove_past xs k past))
 
-same_numbers : {X : Type 0} (f : X → ℕ) (g : X → X) → ((x : X) → f (g x) ≡ f x) → (xs : List X) (o : Option ℕ) → sum_by f (changed_at g xs o) ≡ sum_by f xs
+pub same_numbers : {X : Type 0} (f : X → ℕ) (g : X → X) → ((x : X) → f (g x) ≡ f x) → (xs : List X) (o : Option ℕ) → sum_by f (changed_at g xs o) ≡ sum_by f xs
 same_numbers f g same xs None = refl
 same_numbers {X} f g same xs (Some k) = go (slice_get xs k) refl
   where

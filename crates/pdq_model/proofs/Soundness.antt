@@ -420,21 +420,25 @@ unflagged id a same fails = go a.flagged (rw same at fails)
     go None e = refl
     go (Some step) e = absurd (both_ways true e refl)
 
--- a query that does not wait and is fresh is active
-sound_fresh : (s : State) (who id : ℕ) → IsSound s → IsFresh s id → position (λ (v : Waiting). v.id == id) s.waiting ≡ None → IsSound (record (changed s who (Cancel id)) { entries = s.entries + 1 })
-sound_fresh s who id sound fresh none = go (position (λ (x : Active). x.id == id) s.active) refl
+-- a query that does not wait, is not active and was not withdrawn is nobody's
+unowned : (s : State) (id : ℕ) → position (λ (v : Waiting). v.id == id) s.waiting ≡ None → position (λ (x : Active). x.id == id) s.active ≡ None → position (λ (x : Withdrawn). x.id == id) s.withdrawn ≡ None → owner_of s id ≡ None
+unowned s id none idle gone = ap (λ o. owner_if o (position (λ (x : Active). x.id == id) s.active) (position (λ (x : Withdrawn). x.id == id) s.withdrawn)) none ∙ ap (λ o. owner_if None o (position (λ (x : Withdrawn). x.id == id) s.withdrawn)) idle ∙ ap (owner_if None None) gone
   where
-    gone : position (λ (x : Withdrawn). x.id == id) s.withdrawn ≡ None
-    gone = no_place (λ (x : Withdrawn). x.id == id) s.withdrawn fresh.withdrawn
-
     owner_if : Option ℕ → Option ℕ → Option ℕ → Option ℕ
     owner_if waits active withdrawn = first_some (option_and_then (λ k. option_map (λ (w : Waiting). w.session) (slice_get s.waiting k)) waits) (first_some (option_and_then (λ k. option_map (λ (a : Active). a.session) (slice_get s.active k)) active) (option_and_then (λ k. option_map (λ (w : Withdrawn). w.session) (slice_get s.withdrawn k)) withdrawn))
 
-    unowned : position (λ (x : Active). x.id == id) s.active ≡ None → owner_of s id ≡ None
-    unowned idle = ap (λ o. owner_if o (position (λ (x : Active). x.id == id) s.active) (position (λ (x : Withdrawn). x.id == id) s.withdrawn)) none ∙ ap (λ o. owner_if None o (position (λ (x : Withdrawn). x.id == id) s.withdrawn)) idle ∙ ap (owner_if None None) gone
+-- a query that does not wait and is fresh is active
+fresh_active : (s : State) (id : ℕ) → IsFresh s id → position (λ (v : Waiting). v.id == id) s.waiting ≡ None → position (λ (x : Active). x.id == id) s.active ≡ None → ⊥
+fresh_active s id fresh none idle = both_ways (is_some (owner_of s id)) (ap is_some (unowned s id none idle (no_place (λ (x : Withdrawn). x.id == id) s.withdrawn fresh.withdrawn))) fresh.owner
 
+pub cancelled_active : (s : State) (who id : ℕ) → is_entered (answer_to_cancel s who id) ≡ true → position (λ (v : Waiting). v.id == id) s.waiting ≡ None → position (λ (x : Active). x.id == id) s.active ≡ None → ⊥
+cancelled_active s who id e none idle = fresh_active s id (fresh_query s who id e) none idle
+
+sound_fresh : (s : State) (who id : ℕ) → IsSound s → IsFresh s id → position (λ (v : Waiting). v.id == id) s.waiting ≡ None → IsSound (record (changed s who (Cancel id)) { entries = s.entries + 1 })
+sound_fresh s who id sound fresh none = go (position (λ (x : Active). x.id == id) s.active) refl
+  where
     go : (o : Option ℕ) → position (λ (x : Active). x.id == id) s.active ≡ o → IsSound (record (changed s who (Cancel id)) { entries = s.entries + 1 })
-    go None found = absurd (both_ways (is_some (owner_of s id)) (ap is_some (unowned found)) fresh.owner)
+    go None found = absurd (fresh_active s id fresh none found)
     go (Some place) found =
         let row = row_at s.active place (place_within (λ (x : Active). x.id == id) s.active place found) in
         sound_flagged s who id place row.0 sound none found row.1 (unflagged id row.0 (place_passes (λ (x : Active). x.id == id) s.active place row.0 found row.1) (fails_at (λ (x : Active). x.id == id && is_some x.flagged) s.active place row.0 fresh.flagged row.1))

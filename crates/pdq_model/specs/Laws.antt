@@ -1,5 +1,5 @@
 -- The laws of the manager, over every legal history from a valid configuration.
-use Rattle.std.specs.Prelude.{ℕ, ◌≡◌, ◌≢◌, ◌+◌, ◌≤◌, ◌==◌, List, [], ◌∷◌, map, Some, None, All, IsTrue, ⊤, length, slice_get, count_by, AllPairs}
+use Rattle.std.specs.Prelude.{ℕ, ◌≡◌, ◌≢◌, ◌+◌, ◌≤◌, ◌==◌, ◌&&◌, List, [], ◌∷◌, map, Some, None, All, IsTrue, ⊤, length, slice_get, count_by, AllPairs}
 use Rattle.std.specs.List.Sorted.{IsPermutation}
 use Rattle.pdq_model.specs.declared.rows.Waiting.{Waiting}
 use Rattle.pdq_model.specs.declared.rows.Active.{Active}
@@ -121,3 +121,14 @@ pub record HasRoom (s : State) : Type 0 where
 
 abbrev pub JournalHasRoom : Type 0
 JournalHasRoom = HoldsAlways HasRoom
+
+-- how many of the queries that wait, are active or were withdrawn have this number and are this session's
+abbrev pub queries_of : State → ℕ → ℕ → ℕ
+queries_of s session id = count_by (λ w. w.id == id && w.session == session) s.waiting + count_by (λ a. a.id == id && a.session == session) s.active + count_by (λ w. w.id == id && w.session == session) s.withdrawn
+
+-- an event of one session takes no query of another from the lists, nor adds one
+abbrev pub KeepsOtherSessions : State → Type 0
+KeepsOtherSessions s = (who other id : ℕ) (event : Event) → other ≢ who → queries_of (next s who event) other id ≡ queries_of s other id
+
+abbrev pub OnlyOwnersTake : Type 0
+OnlyOwnersTake = HoldsAlways KeepsOtherSessions

@@ -205,12 +205,15 @@ answer_to_cancel s by id =
 abbrev pub has_size : PoolSize → PoolSize → Bool
 has_size pool asked = pool.quanta == asked.quanta && pool.frames == asked.frames
 
+-- whether a setting waits until no query is active
+abbrev pub can_wait : Setting → Bool
+can_wait (MaxPriority v) = false
+can_wait (TotalMemory v) = true
+can_wait (MaxQueries v) = true
+can_wait (MaxScans v) = true
+
 abbrev pub changed_reply : State → ℕ → Setting → Reply
-changed_reply s by setting = reply.Changed (needs_pool_or_scans setting && is_some (entered s by (Onmode setting)).pending)
-  where
-    needs_pool_or_scans : Setting → Bool
-    needs_pool_or_scans (MaxPriority v) = false
-    needs_pool_or_scans other = true
+changed_reply s by setting = reply.Changed (can_wait setting && is_some (entered s by (Onmode setting)).pending)
 
 -- the answer to a change by this session, with a pool of this size
 abbrev pub answer_to_change : State → ℕ → Setting → PoolSize → Answer

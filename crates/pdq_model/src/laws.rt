@@ -1,6 +1,6 @@
 //! The laws of the manager, over every legal history from a valid configuration. Each stands on a function with nothing to do.
 
-ghost use Rattle.pdq_model.specs.Laws.{LimitsAreKept, EntriesSettle, OnlyHeadsAreAdmitted, OvertakingIsBounded, JournalHasRoom, NumbersAreUnique, HeadsAreFirst, OrderIsWritten};
+ghost use Rattle.pdq_model.specs.Laws.{LimitsAreKept, EntriesSettle, OnlyHeadsAreAdmitted, OvertakingIsBounded, JournalHasRoom, NumbersAreUnique, HeadsAreFirst, OrderIsWritten, OnlyOwnersTake};
 
 /// Reserved quanta never pass DS_MAX_QUERIES, nor scan threads DS_MAX_SCANS, and at most DS_MAX_QUERIES queries are active.
 #[tactic(auto, using(crate::proofs::Histories::limits_are_kept))]
@@ -49,4 +49,10 @@ pub fn has_one_head()
 /// The waiting queries have one written order, in which each is before all that follow, and it begins with the head.
 pub fn orders_the_waiting()
     ensures law { OrderIsWritten }
+{}
+
+/// An event of one session takes no query of another session from the lists, nor adds one to them: a query of another stays known, until its
+/// owner collects it withdrawn or finishes it.
+pub fn only_owners_take()
+    ensures law { OnlyOwnersTake }
 {}

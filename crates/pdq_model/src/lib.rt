@@ -13,6 +13,6 @@ pub use configuration::Config;
 pub use events::{Answer, Entry, Event, How, Reply, Setting, Why};
 pub use laws::{
     admits_heads_only, bounds_overtaking, conserves, has_one_head, journal_has_room,
-    numbers_are_unique, orders_the_waiting, settles,
+    numbers_are_unique, only_owners_take, orders_the_waiting, settles,
 };
 pub use rows::{Active, ActiveRow, Admit, Pending, Session, Waiting, WaitingRow, Withdrawn};

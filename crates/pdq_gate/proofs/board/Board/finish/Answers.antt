@@ -26,7 +26,7 @@ returns-clause-state c =
 pub returns-clause-told : goal.returns-clause-told
 returns-clause-told c =
     c.settle.ensures.told
-    ∙ ap (λ (s : State). admits s.active c.settle.new.self.active.items) c.take_back.ensures.state
+    ∙ ap (λ (s : State). admits s.active c.settle.new.self.active) c.take_back.ensures.state
     ∙ ap (λ (s : State). admits (without_query (state_of c.args.self.now) c.in-Some.place).active s.active) (c.settle.ensures.settled ∙ ap settle c.take_back.ensures.state)
     ∙ sym (admitted_finish c.args.self.now c.args.id c.in-Some.place c.args.how c.in-Some.row c.args.self.now.admitted.items (first_held (state_of c.args.self.now) c.args.id c.in-Some.place c.in-Some.row c.in-Some.ensures.place c.in-Some.ensures.row) c.in-Some.ensures.place)
 

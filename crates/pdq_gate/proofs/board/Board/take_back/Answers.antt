@@ -18,24 +18,21 @@ give_back-requires-clause-whole c =
 pub give_back-requires-clause-most : goal.give_back-requires-clause-most
 give_back-requires-clause-most c =
     rw (c.requires.sound.per_quantum, count_quanta _ c.args.row.quanta _ (some_frames c.args.self.now.config c.requires.sound.model.valid) c.requires.frames)
-    (omega (arith, sum_by_without (λ (a : Active). a.quanta) c.args.self.now.active.items c.args.place c.args.row c.requires.there, c.requires.sound.quanta, c.requires.sound.made))
+    (omega (arith, sum_by_without (λ (a : Active). a.quanta) c.args.self.now.active c.args.place c.args.row c.requires.there, c.requires.sound.quanta, c.requires.sound.made))
 
 pub remove_none-requires-clause-within : goal.remove_none-requires-clause-within
 remove_none-requires-clause-within c =
-    let same = same_length _ c.args.self.now.regions.items c.args.self.now.active.items c.requires.sound.regions in
-    let within = slice_get_within c.args.self.now.active.items c.args.place c.args.row c.requires.there in
+    let same = same_length _ c.args.self.now.regions.items c.args.self.now.active c.requires.sound.regions in
+    let within = slice_get_within c.args.self.now.active c.args.place c.args.row c.requires.there in
     omega (arith, same, within)
 
 pub remove_none-requires-clause-none : goal.remove_none-requires-clause-none
-remove_none-requires-clause-none c = none_there _ c.args.self.now.regions.items c.args.self.now.active.items c.requires.sound.regions c.args.place c.args.row c.requires.there c.requires.collected
+remove_none-requires-clause-none c = none_there _ c.args.self.now.regions.items c.args.self.now.active c.requires.sound.regions c.args.place c.args.row c.requires.there c.requires.collected
 
 pub remove-requires : goal.remove-requires
 remove-requires c =
-    let within = slice_get_within c.args.self.now.active.items c.args.place c.args.row c.requires.there in
+    let within = slice_get_within c.args.self.now.active c.args.place c.args.row c.requires.there in
     omega (arith, within)
-
-pub overflow_sub-self : goal.overflow_sub-self
-overflow_sub-self c = omega (arith, sum_by_without (λ (a : Active). a.scans) c.args.self.now.active.items c.args.place c.args.row c.requires.there, c.requires.sound.scans)
 
 pub returns-clause-state : goal.returns-clause-state
 returns-clause-state c = grind (arith, common_steps)
@@ -43,14 +40,14 @@ returns-clause-state c = grind (arith, common_steps)
 pub returns-clause-sound : goal.returns-clause-sound
 returns-clause-sound c = record {
   model = rw (returns-clause-state c, ← finishes c.args.self.now c.args.id c.args.place Done c.args.row c.requires.place) (sound_finished (state_of c.args.self.now) c.args.row.session c.args.id Done c.args.place c.args.row c.requires.sound.model c.requires.place c.requires.there);
-  quanta = rw (c.remove.ensures.items, c.give_back.ensures.value, c.requires.sound.per_quantum, count_quanta _ c.args.row.quanta _ (some_frames c.args.self.now.config c.requires.sound.model.valid) c.requires.frames) (omega (arith, sum_by_without (λ (a : Active). a.quanta) c.args.self.now.active.items c.args.place c.args.row c.requires.there, c.requires.sound.quanta));
-  made = ap (λ (p : PoolView). p.made) c.give_back.ensures.value ∙ c.requires.sound.made;
+  quanta = rw (c.remove.ensures.value, c.give_back.ensures.value, c.requires.sound.per_quantum, count_quanta _ c.args.row.quanta _ (some_frames c.args.self.now.config c.requires.sound.model.valid) c.requires.frames) (omega (arith, sum_by_without (λ (a : Active). a.quanta) c.args.self.now.active c.args.place c.args.row c.requires.there, c.requires.sound.quanta));
+  made = rw c.give_back.ensures.value c.requires.sound.made;
   per_quantum = ap (λ (p : PoolView). p.frames_per_quantum) c.give_back.ensures.value ∙ c.requires.sound.per_quantum;
-  scans = rw c.remove.ensures.items (omega (arith, sum_by_without (λ (a : Active). a.scans) c.args.self.now.active.items c.args.place c.args.row c.requires.there, c.requires.sound.scans));
-  regions = rw (c.remove_none.ensures.left, c.remove.ensures.items, c.give_back.ensures.value) (step_removed _ c.args.self.now.regions.items c.args.self.now.active.items c.args.place c.requires.sound.regions);
-  waiting_room = omega arith;
-  active_room = omega arith;
+  numbers = c.requires.sound.numbers;
+  regions = rw (c.remove_none.ensures.left, c.remove.ensures.value, c.give_back.ensures.value) (step_removed _ c.args.self.now.regions.items c.args.self.now.active c.args.place c.requires.sound.regions);
+  next_pool = c.requires.sound.next_pool;
   region_room = omega arith;
+  withdrawn_room = omega arith;
   session_room = omega arith;
   admitted_room = omega arith;
 }
