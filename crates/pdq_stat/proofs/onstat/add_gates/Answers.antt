@@ -1,0 +1,9 @@
+use Rattle.std.proofs.Common.{append_assoc}
+use Rattle.pdq_stat.specs.StatusText.{gates_text}
+use Rattle.pdq_stat.proofs.Lines.{gates_head}
+use Rattle.pdq_stat.proofs.onstat.add_gates.Goals as goal
+
+pub returns-clause-text : goal.returns-clause-text
+unfolding gates_text
+returns-clause-text c =
+    rw (c.in_ok-add_row.ensures.text, c.in_ok-extend_from_slice.ensures.items, gates_head) (simp append_assoc cc)
