@@ -1,5 +1,6 @@
 pub mod Closing
 pub mod SplitsCounted
+pub mod Elements
 pub mod History
 pub mod Marks
 pub mod Meets

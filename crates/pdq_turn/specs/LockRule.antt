@@ -40,8 +40,11 @@ module _ {E : Type 0} (party : E → ℕ) where
 module _ {E : Type 0} where
   -- since the view last looked neither its parties nor those that ended in it made an entry
   pub record QuietSince (party : E → ℕ) (log seen : List E) (parties ended : List ℕ) : Type 0 where
+    -- no entry of an ended party
     pub ended_quiet : is_quiet party ended (drop (length seen) log) ≡ true
+    -- no entry of its own parties
     pub own_quiet : is_quiet party parties (drop (length seen) log) ≡ true
+    -- each ended party has an entry, so it is no new one
     pub had : (p : ℕ) → is_among p ended ≡ true → is_among p (map party log) ≡ true
 
 module _ {E O : Type 0} where
@@ -63,11 +66,17 @@ module _ {E O : Type 0} where
 
   -- each ticket from the one served to below the next one to be drawn is with exactly one view, and a view whose pass has the state has the ticket served
   pub record TicketsHold (next served : ℕ) (views : List (PassView E O)) : Type 0 where
+    -- no ticket is served before it is drawn
     pub order : served ≤ next
+    -- the tickets fit a word
     pub most : next < 18446744073709551616
+    -- a view's ticket was drawn, and not served to its end
     pub within : (j t : ℕ) (v : PassView E O) → get_elem? views j ≡ some v → v.ticket ≡ Some t → (served ≤ t) × (t < next)
+    -- no ticket is with two views
     pub one : (i j t : ℕ) (u v : PassView E O) → get_elem? views i ≡ some u → get_elem? views j ≡ some v → u.ticket ≡ Some t → v.ticket ≡ Some t → i ≡ j
+    -- each ticket is with some view
     pub each : (t : ℕ) → served ≤ t → t < next → (j : ℕ) × (v : PassView E O) × (get_elem? views j ≡ some v) × (v.ticket ≡ Some t)
+    -- who has the state has the ticket served
     pub turn : (j : ℕ) (v : PassView E O) → get_elem? views j ≡ some v → v.out ≡ true → v.ticket ≡ Some served
 
   -- the view once the entry of es, of which there is one at most, has its place
@@ -77,12 +86,19 @@ module _ {E O : Type 0} where
 
   -- what a view says is so: its prefixes begin the history, its own entries are all that its parties made
   pub record ViewHolds (party : E → ℕ) (o : O) (log : List E) (v : PassView E O) : Type 0 where
+    -- the origin is that of the lock
     pub origin : (p : O) → v.origin ≡ Some p → p ≡ o
+    -- what it has seen begins the history
     pub seen : IsPrefix v.seen log
+    -- so does what a joined pass had seen
     pub other : IsPrefix v.other log
+    -- who has the state has seen the whole history
     pub whole : v.out ≡ true → v.seen ≡ log
+    -- its own entries are those of its parties, each at its place
     pub mine : v.mine ≡ own_entries party v.parties log
+    -- each of its parties has an entry
     pub entered : (p : ℕ) → is_among p v.parties ≡ true → is_among p (map party log) ≡ true
+    -- nothing of its parties, or of those that ended in it, came since it last looked
     pub since : QuietSince party log v.seen v.parties v.ended
 
   -- no party stands in two views
@@ -93,7 +109,7 @@ module _ {E O : Type 0} where
   abbrev pub split_weight : PassView E O → ℕ
   split_weight v = cond v.is_first 0 (live_count v.origin)
 
-  -- how many passes were split off and not joined
+  -- how many serves were split off and not joined
   abbrev pub split_total : List (PassView E O) → ℕ
   split_total [] = 0
   split_total (v ∷ vs) = split_weight v + split_total vs
@@ -102,10 +118,13 @@ module _ {E O : Type 0} where
   abbrev pub IsIdle : PassView E O → Type 0
   IsIdle v = (v.ticket ≡ None) × (v.out ≡ false) × (v.parties ≡ [])
 
-  -- there is one first pass at most, a pass that was joined to another is idle, and there are no more other passes than it has split off
+  -- there is one first pass at most, a pass that was joined to another is idle, and there are no more other serves than it has split off
   pub record SplitsCounted (views : List (PassView E O)) : Type 0 where
+    -- the first pass
     pub first : (i j : ℕ) (u v : PassView E O) → get_elem? views i ≡ some u → get_elem? views j ≡ some v → u.is_first ≡ true → v.is_first ≡ true → i ≡ j
+    -- the others
     pub few : (j : ℕ) (v : PassView E O) → get_elem? views j ≡ some v → v.is_first ≡ true → split_total views ≤ v.given
+    -- those that were joined
     pub spent : (j : ℕ) (v : PassView E O) → get_elem? views j ≡ some v → v.origin ≡ None → IsIdle v
 
   -- a party of a pass that was joined to another is in no view
@@ -123,20 +142,24 @@ module _ {S E O : Type 0} (journal : S → List E) (party : E → ℕ) (origin :
   abbrev pub IsAtHome : O → List E → State (Option S) (PassView E O) → Type 0
   IsAtHome o log s = (x : S) × (get_elem? s.homes 0 ≡ some (some (Some x))) × (journal x ≡ log) × (origin x ≡ o)
 
-  -- the state is out with one of the passes
+  -- the state is out with one of the serves
   abbrev pub IsOut : State (Option S) (PassView E O) → Type 0
   IsOut s = (j : ℕ) × (v : PassView E O) × (get_elem? s.views j ≡ some v) × (v.out ≡ true)
 
   -- the rule: the history is `log`, and it changes only as each kind of step says
   pub record LockHolds (o : O) (s : State (Option S) (PassView E O)) : Type 0 where
+    -- the history
     pub log : List E
+    -- the table has three words
     pub three : length s.words ≡ 3
     pub tickets : TicketsHold (slice_index s.words 0) (slice_index s.words 1) s.views
+    -- word 2 is the length of the history
     pub counted : slice_index s.words 2 ≡ length log
-    pub known : (j : ℕ) (v : PassView E O) → get_elem? s.views j ≡ some v → ViewHolds party o log v
-    pub apart : DisjointParties s.views
-    pub gone : EndedPartiesGone s.views
-    pub family : SplitsCounted s.views
+    pub views_hold : (j : ℕ) (v : PassView E O) → get_elem? s.views j ≡ some v → ViewHolds party o log v
+    pub disjoint : DisjointParties s.views
+    pub ended_gone : EndedPartiesGone s.views
+    pub splits : SplitsCounted s.views
+    -- the state is at home, or out with a pass
     pub home : IsAtHome o log s ⊎ IsOut s
 
   -- the pass takes the state x: its journal begins with all that was seen, and no joined party made an entry since
@@ -175,7 +198,7 @@ module _ {E O : Type 0} where
   abbrev pub split_view : PassView E O → PassView E O
   split_view v = record { origin = v.origin; is_first = false; ticket = None; out = false; seen = v.seen; other = []; parties = []; mine = []; ended = []; given = 0 }
 
-  -- the view of two passes that are joined: the shorter prefix is kept until it is compared
+  -- the view of two serves that are joined: the shorter prefix is kept until it is compared
   abbrev pub joined_view : PassView E O → PassView E O → PassView E O
   joined_view v w = record v { seen = longer v.seen w.seen; other = shorter v.seen w.seen; ended = (v.ended ++ w.ended) ++ w.parties; given = cond v.is_first (v.given - 1) v.given }
 

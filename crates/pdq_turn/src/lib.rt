@@ -15,7 +15,8 @@ mod view;
 
 pub use journaled::Journaled;
 pub use laws::{
-    entries_counted, joined_is_idle, one_turn, parties_apart, state_at_home, tickets_held,
+    ended_parties_gone, entries_counted, joined_is_idle, one_first_pass, one_mark, one_turn,
+    parties_apart, state_at_home, tickets_held, views_hold,
 };
 pub use lock::{Pass, Turnstile};
 pub use view::PassView;

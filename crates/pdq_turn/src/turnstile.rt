@@ -10,13 +10,20 @@ use crate::lock::{Pass, PassSeat, Turnstile};
 use crate::rule::{CompareSeen, DrawTicket, LookAtServed, PlaceEntry, ServeNext, SplitAndJoin};
 use atomic_table::{Refused, Table};
 use std::alloc::Global;
+use std::hint::spin_loop;
 use std::snapshot::Snapshot;
 use std::sync::Wait;
 use std::thread::yield_now;
 
+/// How often a caller looks for a free turn before it draws a ticket all the same.
+const PATIENCE: u32 = 50;
+
+/// How often the next caller looks before it lets other threads run.
+const LOOKS: u32 = 20;
+
 impl<S: Journaled> Turnstile<S> {
     /// Draws a ticket. After 2^64 - 1 of them it waits for ever.
-    fn draw<R: Wait>(&self, rt: &R, seat: &mut PassSeat<S>) -> u64
+    pub(crate) fn draw<R: Wait>(&self, rt: &R, seat: &mut PassSeat<S>) -> u64
         requires free { (seat.old.table_id ≡ self.now.table.shared.table_id) × IsFreeSeat seat.old }
         ensures ticket { (seat.new.table_id ≡ seat.old.table_id) × (seat.new.me ≡ (with_ticket result (known seat.old), [])) }
     {
@@ -46,6 +53,7 @@ impl<S: Journaled> Turnstile<S> {
         ensures view { (t : ℕ) × (view_of pass.new ≡ with_turn (S.journal result) (with_ticket t (view_of pass.old))) }
     {
         let shared = &self.table.shared;
+        self.wait_for_a_free_turn();
         let ticket = self.draw(rt, &mut pass.seat);
         for _ in rt.forever() {
             if shared.load::<LookAtServed<S>>(&mut pass.seat, 1) == ticket {
@@ -53,9 +61,35 @@ impl<S: Journaled> Turnstile<S> {
                 pass.taken = state.entries().len();
                 return state;
             }
-            yield_now();
+            self.wait_a_little(ticket);
         }
         unreachable!()
+    }
+
+    /// Lets other threads run a number of times while a ticket is out. Who draws a ticket after that is mostly served at once, so that few wait for
+    /// a caller that has a ticket and no processor.
+    fn wait_for_a_free_turn(&self) {
+        for _ in 0..PATIENCE {
+            if self.table.shared.peek(0) == self.table.shared.peek(1) {
+                return;
+            }
+            yield_now();
+        }
+    }
+
+    /// Looks a number of times where the ticket is the next to be served. Where it is not served then, lets other threads run.
+    fn wait_a_little(&self, ticket: u64) {
+        for _ in 0..LOOKS {
+            let served = self.table.shared.peek(1);
+            if served == ticket {
+                return;
+            }
+            if served.wrapping_add(1) != ticket {
+                break;
+            }
+            spin_loop();
+        }
+        yield_now();
     }
 
     /// Puts the state back, and serves the next ticket. The journal is as it was found, or has one entry more, of a party that is new in the

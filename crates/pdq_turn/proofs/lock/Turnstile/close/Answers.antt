@@ -2,19 +2,19 @@ use Rattle.std.proofs.Common.{refl, ◌≡◌, Option, Some, None, sym, ap, ◌�
 use mathlib.Core.List.{IsPrefix}
 use mathlib.Core.Option.{some}
 use Rattle.pdq_turn.specs.LockRule.{own_entries}
-use Rattle.pdq_turn.proofs.Tickets.{at_one}
-use Rattle.pdq_turn.proofs.Closing.{closes, last_words, all_met}
+use Rattle.pdq_turn.proofs.Tickets.{one_at}
+use Rattle.pdq_turn.proofs.Closing.{closes, last_words, closes_once_met}
 use Rattle.pdq_turn.proofs.lock.Turnstile.close.Goals as goal
 
 pub unreachable-requires : goal.unreachable-requires
 unreachable-requires g c =
     let e = closes _ _ _ _ _ _ _ _ _ _ c.close_with-closed.ensures.values.2 c.word-next.ensures c.word-served.ensures c.if-next-served.false in
-    let t : c.take-held.result ≡ Some e.state = at_one _ 0 _ _ c.take-held.ensures.value e.at in cc (t, c.in-None.is)
+    let t : c.take-held.result ≡ Some e.state = one_at _ 0 _ _ c.take-held.ensures.value e.at in cc (t, c.in-None.is)
 
 pub returns : goal.returns
 returns g c =
     let e = closes _ _ _ _ _ _ _ _ _ _ c.close_with-closed.ensures.values.2 c.word-next.ensures c.word-served.ensures c.if-next-served.false in
-    let t : c.take-held.result ≡ Some e.state = at_one _ 0 _ _ c.take-held.ensures.value e.at in
+    let t : c.take-held.result ≡ Some e.state = one_at _ 0 _ _ c.take-held.ensures.value e.at in
     let is : e.state ≡ c.in-Some.state = cc (t, c.in-Some.is) in
     let live = c.requires.live in
     record {
@@ -28,4 +28,4 @@ returns g c =
 pub returns-then-next-served : goal.returns-then-next-served
 returns-then-next-served g c =
     let f = c.close_with-closed.ensures.values.2 in let w = last_words _ _ _ _ _ _ _ _ _ _ f c.word-next.ensures c.word-served.ensures in
-    record { ok = tt; met = λ a b n. absurd (c.if-next-served.true (all_met _ _ _ _ _ _ _ _ _ _ f c.word-next.ensures c.word-served.ensures a b n)); ended = (f.0, f.1, λ e. c.if-next-served.true (sym w.0 ∙ e ∙ w.1)) }
+    record { ok = tt; met = λ a b n. absurd (c.if-next-served.true (closes_once_met _ _ _ _ _ _ _ _ _ _ f c.word-next.ensures c.word-served.ensures a b n)); ended = (f.0, f.1, λ e. c.if-next-served.true (sym w.0 ∙ e ∙ w.1)) }

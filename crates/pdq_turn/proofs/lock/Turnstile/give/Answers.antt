@@ -2,8 +2,8 @@ use Rattle.std.proofs.Common.{rules, ◌≡◌, ◌-◌, ◌<◌, List, [], ◌�
 use Rattle.atomic_table.specs.Table.{Me, rest}
 use Rattle.pdq_turn.specs.declared.view.PassView.{PassView}
 use Rattle.pdq_turn.specs.LockRule.{MayGive, with_entries}
-use Rattle.pdq_turn.proofs.Steps.{passes}
-use Rattle.pdq_turn.proofs.Places.{places, grown_is}
+use Rattle.pdq_turn.proofs.Steps.{serves}
+use Rattle.pdq_turn.proofs.Places.{places, placed_view}
 use Rattle.pdq_turn.proofs.lock.Turnstile.give.Goals as goal
 
 pub fetch_add-requires : goal.fetch_add-requires
@@ -33,9 +33,9 @@ fetch_add-requires-2 g c =
     let w : PassView E O = with_entries g.S.Journaled.party (drop (length v.seen) log) v in
     let now : c.fetch_add.new.seat.me ≡ (w, (0, Some c.args.state) ∷ []) = f.2 c.args.state (ap (λ m. m.1) is)
     ∙ ap (λ (m : M). let n : M = (with_entries g.S.Journaled.party (drop (length m.0.seen) log) m.0, m.1) in n) is in
-    let is_grown = grown_is g.S.Journaled.party v log _ c.requires.entries in (
+    let is_grown = placed_view g.S.Journaled.party v log _ c.requires.entries in (
       f.0 ∙ e.0 ∙ c.requires.lock,
       search rules,
-      passes _ _ _ _ _ _ _ c.args.state (ap (λ m. m.1) now) (ap (λ m. m.0.out) now ∙ is_grown.out ∙ turn.1) (sym (ap (λ m. m.0.seen) now ∙ is_grown.seen))
+      serves _ _ _ _ _ _ _ c.args.state (ap (λ m. m.1) now) (ap (λ m. m.0.out) now ∙ is_grown.out ∙ turn.1) (sym (ap (λ m. m.0.seen) now ∙ is_grown.seen))
           (ap (λ m. m.0.origin) now ∙ is_grown.origin ∙ c.requires.origin) (search rules),
     )
