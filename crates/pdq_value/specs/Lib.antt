@@ -1,0 +1,11 @@
+pub mod Rows
+pub mod Cells
+pub mod Tables
+pub mod Averages
+pub mod Names
+pub mod Header
+pub mod RowLines
+pub mod Numbers
+pub mod PlainTable
+pub mod Appending
+pub mod RowText
