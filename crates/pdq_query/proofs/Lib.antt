@@ -1,0 +1,5 @@
+pub mod Orders
+pub mod Choosing
+pub mod Answering
+pub mod Planning
+mod Examples

@@ -1,0 +1,11 @@
+//! Queries over tables, and what they mean.
+#![tactic(auto)]
+
+mod laws;
+mod query;
+
+pub use laws::{
+    answers_forget_order, answers_sort_one_way, filters_may_come_first, plans_answer,
+    tables_have_any_order, tests_may_come_early,
+};
+pub use query::{At, Compare, Filter, Item, Key, Query};
