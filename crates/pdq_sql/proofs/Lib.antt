@@ -1,0 +1,15 @@
+pub mod ResolutionLists
+pub mod ResolutionFits
+pub mod ResolutionTies
+mod Below
+mod Loop
+mod Sound
+mod Complete
+mod States
+mod Runs
+mod Viable
+mod Bytes
+mod Lines
+mod LineRuns
+mod Places
+mod Answered

@@ -1,0 +1,19 @@
+use Rattle.std.proofs.Common.{map}
+use Rattle.pdq_value.specs.Tables.{shape_of}
+use Rattle.pdq_sql.proofs.ResolutionFits.{four_tables, sixteen_items}
+use Rattle.pdq_sql.proofs.resolving.named.Goals as goal
+
+pub items-requires-clause-from : goal.items-requires-clause-from
+items-requires-clause-from c = rw c.deref-2.ensures.value (four_tables (map shape_of c.args.shapes.now) c.deref.result.now _ c.in_ok-tables.ensures.value)
+
+pub conditions-requires-clause-from : goal.conditions-requires-clause-from
+conditions-requires-clause-from c = rw c.deref-4.ensures.value (four_tables (map shape_of c.args.shapes.now) c.deref.result.now _ c.in_ok-tables.ensures.value)
+
+pub groups-requires-clause-from : goal.groups-requires-clause-from
+groups-requires-clause-from c = rw c.deref-6.ensures.value (four_tables (map shape_of c.args.shapes.now) c.deref.result.now _ c.in_ok-tables.ensures.value)
+
+pub keys-requires-clause-from : goal.keys-requires-clause-from
+keys-requires-clause-from c = rw c.deref-8.ensures.value (four_tables (map shape_of c.args.shapes.now) c.deref.result.now _ c.in_ok-tables.ensures.value)
+
+pub keys-requires-clause-items : goal.keys-requires-clause-items
+keys-requires-clause-items c = rw c.deref-9.ensures.value (sixteen_items (map shape_of c.args.shapes.now) c.deref-2.result.now c.deref-3.result.now _ c.in_ok-items.ensures.value)

@@ -1,0 +1,9 @@
+pub mod Asts
+pub mod Resolution
+pub mod Resolving
+pub mod Tokens
+pub mod Reading
+pub mod Grammar
+pub mod Commands
+pub mod LineReading
+pub mod LineGrammar
