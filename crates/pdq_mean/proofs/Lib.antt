@@ -1,0 +1,12 @@
+pub mod Readings
+pub mod Limits
+pub mod Kept
+pub mod NestedLoops
+pub mod Columns
+pub mod SmallCells
+pub mod Extremes
+pub mod PlainItems
+pub mod Sorts
+pub mod KeyRuns
+pub mod Evaluating
+pub mod Scales

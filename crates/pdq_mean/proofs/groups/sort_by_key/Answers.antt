@@ -1,0 +1,16 @@
+use Rattle.std.proofs.Common.{◌≡◌, ap, is_lt, rules}
+use Rattle.std.proofs.lemmas.Fn.{always_returns_same}
+use Rattle.std.proofs.lemmas.List.MinMax.{ranks_by}
+use Rattle.pdq_value.specs.Tables.{tables_of}
+use Rattle.pdq_query.specs.Queries.{query_of}
+use Rattle.pdq_mean.specs.Groups.{choice_cmp}
+use Rattle.pdq_mean.proofs.Sorts.{choice_cmp-IsTotalOrder}
+use Rattle.pdq_mean.proofs.groups.sort_by_key.Goals as goal
+
+pub returns-clause-sorted : goal.returns-clause-sorted
+unfolding choice_cmp
+returns-clause-sorted c =
+    let tables = tables_of c.args.db.now in
+    let q = query_of c.args.query.now in
+    c.sort_unstable_by.ensures.sorted (λ x y. is_lt (choice_cmp tables q x y)) (ranks_by (choice_cmp-IsTotalOrder tables q) (λ x. x))
+    (always_returns_same _ _ _ (λ a r f' k. (let e : r ≡ choice_cmp tables q a.0.now a.1.0.now = search rules in ap is_lt e, search rules)))

@@ -1,0 +1,4 @@
+pub mod CellRefs
+pub mod Loops
+pub mod Groups
+pub mod Rows
