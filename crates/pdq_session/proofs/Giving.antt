@@ -6,7 +6,8 @@ use Rattle.std.proofs.lemmas.List.{append-nil, length-append, take_at, take_all,
 use Rattle.pdq_edge.specs.Bytes.{Gave, Gives}
 use Rattle.pdq_session.specs.declared.lines.LineOutcome.{LineOutcome}
 use Rattle.pdq_session.specs.declared.lines.LineOutcome.TheVariants as outcome
-use Rattle.pdq_session.specs.Lines.{before_end, first_line, is_past_input, is_too_long, size_of, without_return}
+use Rattle.pdq_base.specs.Lines.{before_end, first_line, size_of, without_return}
+use Rattle.pdq_session.specs.Limits.{is_past_input, is_too_long}
 use Rattle.pdq_session.specs.Reading.{Reader, decided, given_from, bytes_of, GivesLine, Took, IsReading, IsUndecided, ReadsMore, Does, Reads, remaining}
 use Rattle.pdq_session.proofs.Splitting.{split_at_end, before_end_all}
 
@@ -128,7 +129,7 @@ read_rest which a b c s t u old mid held more new n reading undecided reads none
       does = subst P before (subst Q all does);
     }
 
-remaining_none : (a b c : Option (List ℕ)) (xs : List ℕ) → Gave a b xs → Gives b c [] → remaining a c ≡ []
+pub remaining_none : (a b c : Option (List ℕ)) (xs : List ℕ) → Gave a b xs → Gives b c [] → remaining a c ≡ []
 remaining_none None b c xs gave gives = refl
 remaining_none (Some all) None c xs gave gives = absurd gave
 remaining_none (Some all) (Some left) None xs gave gives = absurd gives

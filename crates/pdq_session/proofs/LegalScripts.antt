@@ -38,7 +38,7 @@ use Rattle.pdq_session.specs.declared.replies.LineFault.{LineFault}
 use Rattle.pdq_session.specs.declared.replies.LineFault.TheVariants as fault
 use Rattle.pdq_session.specs.declared.replies.Refusal.TheVariants as refusal
 use Rattle.pdq_model.specs.declared.events.Why.TheVariants as why
-use Rattle.pdq_session.specs.Lines.{InputLine, lines_of, size_of, without_return}
+use Rattle.pdq_base.specs.Lines.{InputLine, lines_of, size_of, without_return}
 use Rattle.pdq_session.specs.Commands.{InLimits, claim_of, done_of, int_of, is_claim, is_done, word_of, after_word, skip_blanks, trimmed_line, line_of}
 use Rattle.pdq_gate.specs.Queries.{session_of}
 use Rattle.pdq_session.specs.ScriptTranscript.{Out, ScriptState, after, collect_step, done_step, fault_at, own_session, refused_step, run_lines, script_step, script_transcript, starting_state, unless_fault}

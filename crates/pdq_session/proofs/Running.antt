@@ -6,7 +6,8 @@ use Rattle.std.proofs.lemmas.List.{append-nil}
 use Rattle.pdq_session.specs.declared.lines.LineOutcome.TheVariants as outcome
 use Rattle.pdq_session.specs.declared.replies.LineFault.{LineFault}
 use Rattle.pdq_session.specs.declared.replies.LineFault.TheVariants as fault
-use Rattle.pdq_session.specs.Lines.{InputLine, before_end, first_line, is_past_input, is_too_long, lines_of, onto, size_of, without_return}
+use Rattle.pdq_base.specs.Lines.{InputLine, before_end, first_line, lines_of, onto, size_of, without_return}
+use Rattle.pdq_session.specs.Limits.{is_past_input, is_too_long}
 use Rattle.pdq_session.specs.Commands.{line_of}
 use Rattle.pdq_session.specs.Replies.{fault_text}
 use Rattle.pdq_session.specs.declared.lines.LineOutcome.{LineOutcome}

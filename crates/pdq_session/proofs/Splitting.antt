@@ -3,7 +3,7 @@ use Rattle.std.proofs.Common.{suc, ◌≡◌, ◌≢◌, ℕ, ◌≤◌, Bool, t
 use Rattle.std.specs.Prelude.{nat_lt, not}
 use Rattle.std.proofs.lemmas.Bool.Decides.{nat_tests}
 use Rattle.std.proofs.lemmas.List.Sums.{take_while-cons}
-use Rattle.pdq_session.specs.Lines.{before_end}
+use Rattle.pdq_base.specs.Lines.{before_end}
 
 -- numbers that differ are told apart, and numbers that are told apart differ
 pub not_same : (a b : ℕ) → a ≢ b → (a == b) ≡ false

@@ -9,7 +9,7 @@ use Rattle.pdq_model.specs.State.{State}
 use Rattle.pdq_model.specs.Step.{is_open}
 use Rattle.pdq_session.specs.declared.scripts.ScriptEnd.{ScriptEnd}
 use Rattle.pdq_session.specs.declared.scripts.ScriptEnd.TheVariants as script_end
-use Rattle.pdq_session.specs.Lines.{lines_of}
+use Rattle.pdq_base.specs.Lines.{lines_of}
 use Rattle.pdq_session.specs.Reading.{Reader, fresh_reader}
 use Rattle.pdq_session.specs.Replies.{end_text, session_text}
 use Rattle.pdq_session.specs.ScriptTranscript.{Out, AtEnd, AtFault, after, ended, own_session, run_lines, script_transcript, starting_state}

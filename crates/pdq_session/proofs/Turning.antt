@@ -10,7 +10,7 @@ use Rattle.pdq_session.specs.declared.replies.LineFault.TheVariants as fault
 use Rattle.pdq_session.specs.declared.scripts.Turn.{Turn}
 use Rattle.pdq_session.specs.declared.scripts.Turn.TheVariants as turn
 use Rattle.pdq_session.specs.Commands.{line_of}
-use Rattle.pdq_session.specs.Lines.{lines_of}
+use Rattle.pdq_base.specs.Lines.{lines_of}
 use Rattle.pdq_session.specs.Reading.{Reader, GivesLine, Reads, decided, remaining}
 use Rattle.pdq_session.specs.Replies.{fault_text}
 use Rattle.pdq_session.specs.ScriptTranscript.{Out, ScriptState, AtFault, after, fault_of, run_lines, script_step, unless_fault}

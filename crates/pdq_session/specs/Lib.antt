@@ -1,7 +1,8 @@
 pub mod ScriptLaws
-pub mod Lines
+pub mod Limits
 pub mod Reading
 pub mod Commands
 pub mod Replies
 pub mod ScriptTranscript
 pub mod Progress
+pub mod Answers

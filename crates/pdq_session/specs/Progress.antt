@@ -9,7 +9,7 @@ use Rattle.pdq_session.specs.declared.scripts.ScriptEnd.{ScriptEnd}
 use Rattle.pdq_session.specs.declared.scripts.ScriptEnd.TheVariants as script_end
 use Rattle.pdq_session.specs.declared.replies.LineFault.{LineFault}
 use Rattle.pdq_session.specs.Commands.{line_of}
-use Rattle.pdq_session.specs.Lines.{lines_of}
+use Rattle.pdq_base.specs.Lines.{lines_of}
 use Rattle.pdq_session.specs.Replies.{fault_text}
 use Rattle.pdq_session.specs.Reading.{Reader, Took, decided, remaining}
 use Rattle.pdq_session.specs.ScriptTranscript.{Out, ScriptEnding, AtEnd, AtFault, after, fault_of, own_session, run_lines, script_step}

@@ -1,7 +1,8 @@
 -- What a reader of lines makes of the bytes that it takes from a source.
 use Rattle.std.specs.Prelude.{◌-◌, ◌^◌, ◌==◌, drop, take, ℕ, ◌≡◌, ◌+◌, ◌<◌, ◌≤◌, List, [], ◌∷◌, ◌++◌, Bool, false, not, if◌then◌else◌, Option, Some, None, IsTrue, length}
 use Rattle.pdq_edge.specs.Bytes.{Gave, Gives}
-use Rattle.pdq_session.specs.Lines.{InputLine, first_line, is_past_input, is_too_long, size_of, without_return}
+use Rattle.pdq_base.specs.Lines.{InputLine, first_line, size_of, without_return}
+use Rattle.pdq_session.specs.Limits.{is_past_input, is_too_long}
 use Rattle.pdq_session.specs.declared.lines.LineOutcome.{LineOutcome}
 use Rattle.pdq_session.specs.declared.lines.LineOutcome.TheVariants as outcome
 

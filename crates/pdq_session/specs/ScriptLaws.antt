@@ -5,7 +5,7 @@ use Rattle.pdq_model.specs.Configuration.{Configuration, IsValid}
 use Rattle.pdq_model.specs.State.{State}
 use Rattle.pdq_model.specs.History.{IsLegal, replay}
 use Rattle.pdq_model.specs.Laws.{IsWithinLimits, IsAtRest, IsOvertakenLittle}
-use Rattle.pdq_session.specs.Lines.{InputLine, without_return}
+use Rattle.pdq_base.specs.Lines.{InputLine, without_return}
 use Rattle.pdq_session.specs.Commands.{line_of}
 use Rattle.pdq_session.specs.ScriptTranscript.{ScriptState, script_step, script_transcript, starting_state}
 

@@ -18,7 +18,8 @@ use Rattle.pdq_session.specs.declared.replies.LineFault.{LineFault}
 use Rattle.pdq_session.specs.declared.replies.LineFault.TheVariants as fault
 use Rattle.pdq_session.specs.declared.replies.Refusal.{Refusal}
 use Rattle.pdq_session.specs.declared.replies.Refusal.TheVariants as refusal
-use Rattle.pdq_session.specs.Lines.{InputLine, is_past_input, is_too_long, lines_of, size_of, without_return}
+use Rattle.pdq_base.specs.Lines.{InputLine, lines_of, size_of, without_return}
+use Rattle.pdq_session.specs.Limits.{is_past_input, is_too_long}
 use Rattle.pdq_session.specs.Commands.{line_of}
 use Rattle.pdq_session.specs.Replies.{admits_text, cancelled_text, done_text, end_text, fault_text, outside_text, placed_text, refusal_text, session_text, stopped_text}
 

@@ -1,7 +1,8 @@
 //! Scripts: lines from a source are run on the memory grant manager one after another, and the reply to each is
-//! written to a sink.
+//! written to a sink. The texts of answers and of refusals stand here too.
 #![tactic(auto)]
 
+mod answers;
 mod commands;
 mod lines;
 mod replies;
@@ -10,5 +11,6 @@ mod scripts;
 #[cfg(test)]
 mod tests;
 
+pub use answers::{add_answer, add_refused_select, add_refused_table, add_too_many_rows};
 pub use script_laws::scripts_keep_rules;
 pub use scripts::{ScriptEnd, script_in};

@@ -1,7 +1,7 @@
 //! The lines of a source, however its reads cut them.
 ghost use Rattle.std.specs.Prelude.{◌≡◌, ◌≢◌, ◌+◌, ◌<◌, ◌≤◌, ◌++◌, [], None, is_some, false, length, vec_len, vec_capacity, take, drop, take_while, IfNone, IfOk, IfSome, IsTrue, OnErr, OnOk};
 ghost use Rattle.pdq_edge.specs.Causes.{HasCause, Rose};
-ghost use Rattle.pdq_session.specs.Lines.{before_end, without_return};
+ghost use Rattle.pdq_base.specs.Lines.{before_end, without_return};
 ghost use Rattle.pdq_session.specs.Reading.{remaining, Does, IsAtEnd, Reads, ReadsMore, decided};
 
 use pdq_base::Memory;
@@ -59,7 +59,7 @@ fn decided(given: u32, held: &[u8]) -> Option<LineOutcome>
 }
 
 // What a line says: its bytes without one byte 13 at their end.
-#[tactic(auto, unfolding(crate::specs::Lines::without_return))]
+#[tactic(auto, unfolding(pdq_base::specs::Lines::without_return))]
 fn without_return(line: &[u8]) -> &[u8]
     ensures value { result.now ≡ without_return line.now }
     ensures bound { length result.now ≤ length line.now }

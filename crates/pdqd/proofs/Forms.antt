@@ -1,19 +1,19 @@
--- Words that are not as many as a script has.
+-- Words that are not as many as a form has.
 use Rattle.std.proofs.Common.{◌≡◌, ◌≢◌, ℕ, List, [], ◌∷◌, length, refl, sym, ◌∙◌}
 use Rattle.std.specs.Prelude.{map, None}
 use Rattle.std.proofs.lemmas.List.{length-map}
 use Rattle.pdqd.specs.Words.{form_of}
 
-no_form : (words : List (List ℕ)) → length words ≢ 6 → form_of words ≡ None
+no_form : (words : List (List ℕ)) → length words ≢ 2 → length words ≢ 6 → form_of words ≡ None
 unfolding form_of
-no_form [] differ = refl
-no_form (a ∷ []) differ = refl
-no_form (a ∷ b ∷ []) differ = refl
-no_form (a ∷ b ∷ c ∷ []) differ = refl
-no_form (a ∷ b ∷ c ∷ d ∷ []) differ = refl
-no_form (a ∷ b ∷ c ∷ d ∷ e ∷ []) differ = refl
-no_form (a ∷ b ∷ c ∷ d ∷ e ∷ f ∷ []) differ = absurd (differ refl)
-no_form (a ∷ b ∷ c ∷ d ∷ e ∷ f ∷ g ∷ words) differ = refl
+no_form [] two six = refl
+no_form (a ∷ []) two six = refl
+no_form (a ∷ b ∷ []) two six = absurd (two refl)
+no_form (a ∷ b ∷ c ∷ []) two six = refl
+no_form (a ∷ b ∷ c ∷ d ∷ []) two six = refl
+no_form (a ∷ b ∷ c ∷ d ∷ e ∷ []) two six = refl
+no_form (a ∷ b ∷ c ∷ d ∷ e ∷ f ∷ []) two six = absurd (six refl)
+no_form (a ∷ b ∷ c ∷ d ∷ e ∷ f ∷ g ∷ words) two six = refl
 
-pub no_form_of : {X : Type 0} (f : X → List ℕ) (xs : List X) → length xs ≢ 6 → form_of (map f xs) ≡ None
-no_form_of f xs differ = no_form (map f xs) (λ e. differ (sym (length-map xs f) ∙ e))
+pub no_form_of : {X : Type 0} (f : X → List ℕ) (xs : List X) → length xs ≢ 2 → length xs ≢ 6 → form_of (map f xs) ≡ None
+no_form_of f xs two six = no_form (map f xs) (λ e. two (sym (length-map xs f) ∙ e)) (λ e. six (sym (length-map xs f) ∙ e))

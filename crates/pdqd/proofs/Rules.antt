@@ -3,11 +3,12 @@ use Rattle.std.proofs.Common.{◌≡◌, Option, subst}
 use Rattle.std.specs.Prelude.{Some, IfSome}
 use Rattle.pdq_session.proofs.LegalScripts.{scripts_keep_rules}
 use Rattle.pdqd.specs.declared.words.Form.{Form}
-use Rattle.pdqd.specs.declared.words.Form.TheVariants.{Script}
+use Rattle.pdqd.specs.declared.words.Form.TheVariants.{Script, Ask}
 use Rattle.pdqd.specs.Words.{IsInRange}
 use Rattle.pdqd.specs.Run.{KeepsItsRules}
 
 form_keeps_rules : (form : Form) → IsInRange form → KeepsItsRules form
+form_keeps_rules (Ask select) range = tt
 form_keeps_rules (Script config opening) range = λ lines. scripts_keep_rules config lines range.0
 
 pub keeps_rules : (o : Option Form) (form : Form) → Some form ≡ o → IsInRange form → IfSome o KeepsItsRules

@@ -8,7 +8,8 @@ use Rattle.pdq_model.specs.State.{State}
 use Rattle.pdq_session.specs.Progress.{SourceView, CanFollow, Begins, Wrote, WroteSome}
 use Rattle.pdq_session.specs.ScriptTranscript.{Out, ScriptEnding, script_transcript}
 use Rattle.pdqd.specs.declared.words.Form.TheVariants.{Script}
-use Rattle.pdqd.specs.Run.{Output, run_output, status_of, WroteAll, WrotePart, IsWhole, IsCutOff}
+use Rattle.pdqd.specs.Output.{Output}
+use Rattle.pdqd.specs.Run.{run_output, status_of, WroteAll, WrotePart, IsWhole, IsCutOff}
 
 -- what a sink told stays what it grew by
 grows_same : (w0 w v : Option (List ℕ)) (text : List ℕ) → v ≡ w → Grows w0 w text → Grows w0 v text

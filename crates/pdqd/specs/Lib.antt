@@ -1,2 +1,5 @@
 pub mod Words
 pub mod Run
+pub mod Output
+pub mod Ask
+pub mod Input

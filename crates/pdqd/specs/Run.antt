@@ -1,19 +1,17 @@
 -- What a run writes, and the status that it ends with.
-use Rattle.std.specs.Prelude.{ℕ, ◌≡◌, ◌≤◌, ◌⊎◌, ◌++◌, List, Option, length}
+use Rattle.std.specs.Prelude.{⊤, ℕ, ◌≡◌, ◌≤◌, ◌⊎◌, ◌++◌, List, Option, length}
 use Rattle.pdq_edge.specs.Bytes.{Grows}
 use Rattle.pdq_model.specs.Configuration.{Configuration}
 use Rattle.pdq_model.specs.State.{State}
 use Rattle.pdq_session.specs.declared.scripts.ScriptEnd.{ScriptEnd}
 use Rattle.pdq_session.specs.Progress.{SourceView, Came, CanFollow, Begins, Ends}
-use Rattle.pdq_session.specs.Lines.{InputLine}
+use Rattle.pdq_base.specs.Lines.{InputLine}
 use Rattle.pdq_session.specs.ScriptLaws.{KeepsRules, state_after_lines}
 use Rattle.pdq_session.specs.ScriptTranscript.{ScriptEnding, AtEnd, AtFault, script_transcript, starting_state}
 use Rattle.pdqd.specs.declared.words.Form.{Form}
-use Rattle.pdqd.specs.declared.words.Form.TheVariants.{Script}
-
-pub record Output : Type 0 where
-  pub text : List ℕ
-  pub status : ℕ
+use Rattle.pdqd.specs.declared.words.Form.TheVariants.{Script, Ask}
+use Rattle.pdqd.specs.Output.{Output}
+use Rattle.pdqd.specs.Ask.{ask_output}
 
 abbrev pub status_of : ScriptEnding → ℕ
 status_of AtEnd = 0
@@ -25,6 +23,7 @@ run_output (Script config opening) bytes failed = record {
   text = (script_transcript config bytes).text;
   status = status_of (script_transcript config bytes).ending;
 }
+run_output (Ask select) bytes failed = ask_output select bytes
 
 -- the source gave these bytes, and whatever can follow them, the whole text of the run was written and this is its status; no more queries failed than the stores counted faults
 pub record WroteAll (form : Form) (before now : SourceView) (written0 written : Option (List ℕ)) (faults status : ℕ) : Type 0 where
@@ -64,4 +63,5 @@ pub record RunsScript (end : ScriptEnd) (config : Configuration) (before now : S
 
 -- whatever the lines of its script, after each of them the manager of such a run keeps its rules: it gives no more than there is, is at rest, overtakes no query more than 32 times, and has come there by a legal history
 abbrev pub KeepsItsRules : Form → Type 0
+KeepsItsRules (Ask select) = ⊤
 KeepsItsRules (Script config opening) = (lines : List InputLine) → KeepsRules config (state_after_lines (starting_state config) lines).manager

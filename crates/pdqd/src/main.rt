@@ -3,6 +3,8 @@
 
 ghost use Rattle.std.specs.Prelude.{◌≡◌, IfOk, vec_len};
 
+mod asking;
+mod input;
 mod run;
 #[cfg(test)]
 mod tests;

@@ -1,13 +1,17 @@
 //! One command, from the source to the sink.
-ghost use Rattle.std.specs.Prelude.{◌≡◌, ◌≢◌, ◌≤◌, ◌-◌, ◌↔◌, ◌⊎◌, ℕ, None, IfSome, IsTrue, map, string_bytes, sum_by, vec_len};
+ghost use Rattle.std.specs.Prelude.{◌≡◌, ◌≢◌, ◌≤◌, ◌-◌, ◌↔◌, ◌⊎◌, ℕ, None, IfSome, IsTrue, length, map, string_bytes, sum_by, vec_len};
+ghost use Rattle.pdq_edge.specs.Bytes.{Grows, GrewSome};
 ghost use Rattle.pdq_edge.specs.Causes.{Rose};
 ghost use Rattle.pdq_model.specs.State.{opening_state};
 ghost use Rattle.pdq_session.specs.Progress.{source_view};
-ghost use Rattle.pdqd.specs.Words.{form_of};
+ghost use Rattle.pdqd.specs.Words.{form_of, IsInRange};
 ghost use Rattle.pdqd.specs.Run.{IsStatus, IsWhole, IsCutOff, KeepsItsRules, RunsScript, WroteAll, WrotePart};
 
+use crate::asking::{Reply, reply_to};
+use crate::input::{InputFault, read_input};
 use crate::words::{Form, read_words};
-use pdq_edge::{Files, Sink, Source, Spill};
+use pdq_base::Memory;
+use pdq_edge::{Files, Sink, Source, Spill, write_all};
 use pdq_frame::Pool;
 use pdq_gate::{Config, Manager};
 use pdq_session::{ScriptEnd, script_in};
@@ -77,7 +81,7 @@ fn run_script<So: Source, Si: Sink>(
 }
 
 /// Runs a script, flushes the sink, and answers the status.
-fn run_to_status<So: Source, Si: Sink>(
+fn script_status<So: Source, Si: Sink>(
     alloc: Global,
     config: Config,
     source: &mut So,
@@ -101,11 +105,71 @@ fn run_to_status<So: Source, Si: Sink>(
     }
 }
 
+/// Writes a reply, flushes the sink, and answers the status.
+fn write_reply<Si: Sink>(sink: &mut Si, reply: &Reply) -> u8
+    ensures known { (result ≡ reply.now.status) ⊎ (result ≡ 74) }
+    ensures whole { result ≢ 74 → Grows (Si.written sink.old) (Si.written sink.new) reply.now.text.items }
+    ensures part { GrewSome (Si.written sink.old) (Si.written sink.new) reply.now.text.items }
+    ensures write { reply.now.status ≢ 74 → result ≡ 74 → Rose (Si.faults sink.old) (Si.faults sink.new) }
+{
+    match write_all(sink, &reply.text) {
+        Ok(()) => flushed(sink, reply.status),
+        Err(_) => NO_OUTPUT,
+    }
+}
+
+/// Answers a question on the plain table of the source, flushes the sink, and answers the status.
+fn ask_status<So: Source, Si: Sink>(
+    alloc: Global,
+    select: &[u8],
+    source: &mut So,
+    sink: &mut Si,
+) -> u8
+    requires size { length select.now ≤ 8192 }
+    ensures known { (IsWhole result) ⊎ (IsCutOff result) }
+    ensures whole { (faults : ℕ) → IsWhole result → WroteAll (Form.Ask select.now)
+        (source_view So.left So.taken So.ended source.old) (source_view So.left So.taken So.ended source.new) (Si.written sink.old) (Si.written sink.new) faults result }
+    ensures part { (faults : ℕ) → IsCutOff result → WrotePart (Form.Ask select.now)
+        (source_view So.left So.taken So.ended source.old) (source_view So.left So.taken So.ended source.new) (Si.written sink.old) (Si.written sink.new) faults }
+    ensures ended { result ≡ 0 → IsTrue (So.ended source.new) }
+    ensures read { result ≡ 66 → Rose (So.faults source.old) (So.faults source.new) }
+    ensures write { result ≡ 74 → Rose (Si.faults sink.old) (Si.faults sink.new) }
+{
+    let bytes = match read_input(alloc, source) {
+        Ok(bytes) => bytes,
+        Err(InputFault::Failed) => return NO_INPUT,
+        Err(InputFault::Memory) => return NO_MEMORY,
+    };
+    match reply_to(alloc, select, bytes) {
+        Ok(reply) => write_reply(sink, &reply),
+        Err(Memory) => NO_MEMORY,
+    }
+}
+
+/// Runs a command of this form.
+fn run_form<So: Source, Si: Sink>(alloc: Global, form: Form, source: &mut So, sink: &mut Si) -> u8
+    requires range { IsInRange form }
+    ensures known { (IsWhole result) ⊎ (IsCutOff result) }
+    ensures whole { (faults : ℕ) → IsWhole result → WroteAll form
+        (source_view So.left So.taken So.ended source.old) (source_view So.left So.taken So.ended source.new) (Si.written sink.old) (Si.written sink.new) faults result }
+    ensures part { (faults : ℕ) → IsCutOff result → WrotePart form
+        (source_view So.left So.taken So.ended source.old) (source_view So.left So.taken So.ended source.new) (Si.written sink.old) (Si.written sink.new) faults }
+    ensures ended { result ≡ 0 → IsTrue (So.ended source.new) }
+    ensures read { result ≡ 66 → Rose (So.faults source.old) (So.faults source.new) }
+    ensures write { result ≡ 74 → Rose (Si.faults sink.old) (Si.faults sink.new) }
+{
+    match form {
+        Form::Script { config, opening: _ } => script_status(alloc, config, source, sink),
+        Form::Ask(select) => ask_status(alloc, select.bytes(), source, sink),
+    }
+}
+
 /// Runs the command that the words ask for, from the source to the sink, and answers the status of the program.
 ///
-/// The words are those after the program's name, and the stores are 48. Today there is one form, `script T Q S m p`:
-/// DS_TOTAL_MEMORY in KB, DS_MAX_QUERIES, DS_MAX_SCANS, MAX_PDQPRIORITY and the opening priority, each a number of 1 to 7
-/// digits without a leading zero, or 0. The statuses are our own, after those of sysexits.
+/// The words are those after the program's name, and the stores are 48. Today there are two forms. `script T Q S m p` runs the
+/// lines of the source: DS_TOTAL_MEMORY in KB, DS_MAX_QUERIES, DS_MAX_SCANS, MAX_PDQPRIORITY and the opening priority, each a
+/// number of 1 to 7 digits without a leading zero, or 0. `ask SELECT` answers the select over the plain table of the source.
+/// The statuses are our own, after those of sysexits.
 pub fn run<R: Threads + Sync, F: Files, So: Source, Si: Sink, Sp: Spill>(
     _rt: &R,
     alloc: Global,
@@ -142,9 +206,11 @@ pub fn run<R: Threads + Sync, F: Files, So: Source, Si: Sink, Sp: Spill>(
     ensures read { result ≡ 66 → Rose (So.faults source.old) (So.faults source.new) }
     ensures write { result ≡ 74 → Rose (Si.faults sink.old) (Si.faults sink.new) }
 {
-    let Some(form) = read_words(words) else {
+    let Ok(form) = read_words(alloc, words) else {
+        return NO_MEMORY;
+    };
+    let Some(form) = form else {
         return USAGE;
     };
-    let Form::Script { config, opening: _ } = form;
-    run_to_status(alloc, config, source, sink)
+    run_form(alloc, form, source, sink)
 }

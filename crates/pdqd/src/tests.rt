@@ -30,6 +30,32 @@ fn run_over<R: Threads + Sync>(
     for word in words.split(' ') {
         given.push(word.to_string(alloc)?)?;
     }
+    run_words(rt, alloc, given, bytes, most, read_fails, room)
+}
+
+fn ask_over<R: Threads + Sync>(
+    rt: &R,
+    alloc: Global,
+    select: &str,
+    table: &str,
+    room: usize,
+) -> Result<Ran, Fail> {
+    let mut given = Vec::new(alloc);
+    given.push("ask".to_string(alloc)?)?;
+    given.push(select.to_string(alloc)?)?;
+    let bytes = table.as_bytes().to_vec(alloc)?;
+    run_words(rt, alloc, given, bytes, 7, &[], room)
+}
+
+fn run_words<R: Threads + Sync>(
+    rt: &R,
+    alloc: Global,
+    given: Vec<String>,
+    bytes: Vec<u8>,
+    most: usize,
+    read_fails: &[u64],
+    room: usize,
+) -> Result<Ran, Fail> {
     let mut stores = stores_made(alloc)?;
     let mut files = SureFiles::new(Vec::new(alloc));
     let mut source = MemSource::with_most(bytes, read_fails.to_vec(alloc)?, most.max(1));
@@ -192,5 +218,82 @@ fn faults(rt: HostRuntime) -> Result<(), Fail> {
             "with room {room}"
         );
     }
+    Ok(())
+}
+
+const PENS: &str = "table t name:text price:number:2\nPen|1.50\nInk|12.00\nPen|1.50\n";
+
+#[test]
+fn questions(rt: HostRuntime) -> Result<(), Fail> {
+    let alloc: Global = rt.alloc();
+    let cases = [
+        (
+            "SELECT price, name FROM t WHERE price < 5 ORDER BY 1 DESC",
+            PENS,
+            0,
+            "ROWS 2\n1.50|Pen\n1.50|Pen\n",
+        ),
+        (
+            "SELECT name, COUNT(*), SUM(price), AVG(price), MIN(price), MAX(price) FROM t GROUP BY name ORDER BY 3 DESC",
+            PENS,
+            0,
+            "ROWS 2\nInk|1|12.00|12.0000|12.00|12.00\nPen|2|3.00|1.5000|1.50|1.50\n",
+        ),
+        (
+            "SELECT COUNT(*), SUM(price), MIN(name) FROM t WHERE name > 'Z'",
+            PENS,
+            0,
+            "ROWS 1\n0|\\N|\\N\n",
+        ),
+        (
+            "SELECT t.name FROM t WHERE name <> 'Pen' AND name = name",
+            PENS,
+            0,
+            "ROWS 1\nInk\n",
+        ),
+        ("SELECT x FROM t", PENS, 65, "ERROR 3 unknown column AT 7\n"),
+        (
+            "SELECT name FROM t WHERE price = 1.505",
+            PENS,
+            65,
+            "ERROR 5 kinds differ AT 25\n",
+        ),
+        (
+            "SELECT name FROM t WHERE",
+            PENS,
+            65,
+            "ERROR 1 bad line AT 24\n",
+        ),
+        (
+            "SELECT name, price FROM t GROUP BY name",
+            PENS,
+            65,
+            "ERROR 7 column not grouped AT 13\n",
+        ),
+        ("SELECT a FROM t", "table t a:text", 0, "ROWS 0\n"),
+        ("SELECT a FROM t", "table t a:text\n\n", 0, "ROWS 1\n\n"),
+        (
+            "SELECT a FROM",
+            "table t a",
+            65,
+            "FAULT DATA wrong header TABLE 1 ROW 0 COLUMN 0\n",
+        ),
+        (
+            "SELECT a FROM t",
+            "table t a:number:1\n1.0\n1.25\n",
+            65,
+            "FAULT DATA bad number TABLE 1 ROW 2 COLUMN 1\n",
+        ),
+    ];
+    for (select, table, status, output) in cases {
+        let ran = ask_over(&rt, alloc, select, table, ROOM)?;
+        assert_eq!(rt; ran.status, status, "{select}");
+        assert_eq!(rt; ran.sink.bytes(), output.as_bytes(), "{select}");
+    }
+    let cut = ask_over(&rt, alloc, "SELECT name FROM t", PENS, 9)?;
+    assert_eq!(rt; cut.status, 74);
+    assert_eq!(rt; cut.sink.bytes(), b"ROWS 3\nIn".as_slice());
+    let option = ask_over(&rt, alloc, "-SELECT", PENS, ROOM)?;
+    assert_eq!(rt; option.status, 64);
     Ok(())
 }

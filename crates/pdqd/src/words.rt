@@ -1,15 +1,20 @@
 //! The words of the command line.
-ghost use Rattle.std.specs.Prelude.{◌≡◌, IfSome, map, string_bytes};
+ghost use Rattle.std.specs.Prelude.{◌≡◌, ◌&&◌, ◌==◌, IfOk, IfSome, OnErr, length, map, nat_lt, slice_index, string_bytes};
 ghost use Rattle.std.specs.List.{list_all};
-ghost use Rattle.pdqd.specs.Words.{is_digit, has_digits, has_leading_zero, is_number, number_of, script_of, is_script, form_of, IsInRange};
+ghost use Rattle.pdqd.specs.Words.{is_digit, has_digits, has_leading_zero, is_number, number_of, script_of, is_ask, is_script, is_select, form_of, Asks, IsInRange};
 
+use pdq_base::Memory;
 use pdq_model::Config;
+use pdq_value::Text;
+use std::alloc::Global;
 
 /// What the words ask for.
-#[derive(Clone, Copy)]
+#[derive(Drop)]
 pub(crate) enum Form {
     /// A script over a manager of this configuration, with the priority that its sessions begin with.
     Script { config: Config, opening: u32 },
+    /// The answer of a select over the plain table of the source.
+    Ask(Text),
 }
 
 fn is_digit(b: u8) -> bool
@@ -88,20 +93,49 @@ fn script(
     }
 }
 
+fn is_ask(word: &[u8]) -> bool
+    ensures value { result ≡ is_ask word.now }
+{
+    word.len() == 3 && word[0] == b'a' && word[1] == b's' && word[2] == b'k'
+}
+
+/// Whether a word is in no form, as an option is none.
+fn begins_with_dash(word: &[u8]) -> bool
+    ensures value { result ≡ (nat_lt 0 (length word.now) && slice_index word.now 0 == 45) }
+{
+    !word.is_empty() && word[0] == b'-'
+}
+
+fn is_select(word: &[u8]) -> bool
+    ensures value { result ≡ is_select word.now }
+{
+    word.len() <= 8192 && !begins_with_dash(word)
+}
+
 /// The form that the words have; None where they have none or a number is out of range.
+///
+/// # Errors
+/// `Memory` where it is wanting.
 #[tactic(auto, unfolding(crate::specs::Words::form_of))]
-pub(crate) fn read_words(words: &[String]) -> Option<Form>
-    ensures value { result ≡ form_of (map string_bytes words.now) }
-    ensures in_range { IfSome result IsInRange }
+pub(crate) fn read_words(alloc: Global, words: &[String]) -> Result<Option<Form>, Memory>
+    ensures value { IfOk result (λ form. form ≡ form_of (map string_bytes words.now)) }
+    ensures in_range { IfOk result (λ form. IfSome form IsInRange) }
+    ensures asks { OnErr result (Asks (form_of (map string_bytes words.now))) }
 {
     match words {
-        [word, t, q, s, m, p] => {
-            if is_script(word.as_bytes()) {
-                script(number(t), number(q), number(s), number(m), number(p))
-            } else {
-                None
+        [word, select] => {
+            if !is_ask(word.as_bytes()) || !is_select(select.as_bytes()) {
+                return Ok(None);
             }
+            let select = Text::from_bytes(alloc, select.as_bytes())?;
+            Ok(Some(Form::Ask(select)))
         }
-        _ => None,
+        [word, t, q, s, m, p] => {
+            if !is_script(word.as_bytes()) {
+                return Ok(None);
+            }
+            Ok(script(number(t), number(q), number(s), number(m), number(p)))
+        }
+        _ => Ok(None),
     }
 }

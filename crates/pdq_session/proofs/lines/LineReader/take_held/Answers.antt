@@ -1,7 +1,7 @@
 use Rattle.std.proofs.Common.{◌≡◌, length, ap, ◌∙◌, rules}
 use Rattle.std.specs.Prelude.{Some}
 use Rattle.pdq_session.specs.declared.lines.LineOutcome.TheVariants as outcome
-use Rattle.pdq_session.specs.Lines.{before_end}
+use Rattle.pdq_base.specs.Lines.{before_end}
 use Rattle.pdq_session.specs.Reading.{decided}
 use Rattle.pdq_session.proofs.Giving.{gives_line}
 use Rattle.pdq_session.proofs.lines.LineReader.take_held.Goals as goal

@@ -1,7 +1,7 @@
 use Rattle.std.proofs.Common.{◌≡◌, refl, arith}
 use Rattle.pdq_session.specs.ScriptTranscript.{AtEnd, AtFault}
 use Rattle.pdqd.proofs.Statuses.{wrote_all, wrote_all_part, whole_kept, rose_since}
-use Rattle.pdqd.proofs.run.run_to_status.Goals as goal
+use Rattle.pdqd.proofs.run.script_status.Goals as goal
 
 pub returns-in-End-clause-whole : goal.returns-in-End-clause-whole
 returns-in-End-clause-whole g c opening faults is = wrote_all c.args.config opening faults c.flushed.result _ _ _ _ _ AtEnd _ c.in-End.ensures.ends.ends.wrote c.flushed.ensures.written (whole_kept _ 0 c.flushed.ensures.status is)

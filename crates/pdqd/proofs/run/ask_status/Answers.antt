@@ -1,0 +1,32 @@
+use Rattle.std.proofs.Common.{◌≡◌, sym, ◌∙◌, inl}
+use Rattle.pdqd.proofs.Questions.{answered_ended, known_status, never_unread, no_write_status, reply_status, whole_is_written, wrote_nothing, wrote_part, wrote_reply}
+use Rattle.pdqd.proofs.Statuses.{whole_kept}
+use Rattle.pdqd.proofs.run.ask_status.Goals as goal
+
+pub returns-in-Err-Failed-clause-part : goal.returns-in-Err-Failed-clause-part
+returns-in-Err-Failed-clause-part g c faults is = wrote_nothing _ faults _ _ _ c.in-Err-Failed.ensures.some
+
+pub returns-in-Err-Memory-clause-part : goal.returns-in-Err-Memory-clause-part
+returns-in-Err-Memory-clause-part g c faults is = wrote_nothing _ faults _ _ _ c.in-Err-Memory.ensures.some
+
+pub returns-in-Ok-reply_to-clause-known : goal.returns-in-Ok-reply_to-clause-known
+returns-in-Ok-reply_to-clause-known g c = known_status _ _ c.write_reply.ensures.known (reply_status _ _ _ _ c.in-Ok-reply_to.ensures.reply)
+
+pub returns-in-Ok-reply_to-clause-whole : goal.returns-in-Ok-reply_to-clause-whole
+returns-in-Ok-reply_to-clause-whole g c faults is =
+    let same : c.write_reply.result ≡ c.in-Ok-reply_to.reply.status = whole_kept _ _ c.write_reply.ensures.known is in
+    wrote_reply _ faults c.write_reply.result _ _ _ _ _ _ c.in-Ok.ensures.read (rw same c.in-Ok-reply_to.ensures.reply) (c.write_reply.ensures.whole (whole_is_written _ is))
+
+pub returns-in-Ok-reply_to-clause-part : goal.returns-in-Ok-reply_to-clause-part
+returns-in-Ok-reply_to-clause-part g c faults is = wrote_part _ faults _ _ _ _ _ _ _ c.in-Ok.ensures.read c.in-Ok-reply_to.ensures.reply c.write_reply.ensures.part
+
+pub returns-in-Ok-reply_to-clause-ended : goal.returns-in-Ok-reply_to-clause-ended
+returns-in-Ok-reply_to-clause-ended g c is =
+    let same : c.write_reply.result ≡ c.in-Ok-reply_to.reply.status = whole_kept _ _ c.write_reply.ensures.known (inl is) in
+    answered_ended _ _ _ _ _ _ c.in-Ok.ensures.read c.in-Ok-reply_to.ensures.reply (sym same ∙ is)
+
+pub returns-in-Ok-reply_to-clause-read : goal.returns-in-Ok-reply_to-clause-read
+returns-in-Ok-reply_to-clause-read g c is = absurd (never_unread _ _ c.write_reply.ensures.known (reply_status _ _ _ _ c.in-Ok-reply_to.ensures.reply) is)
+
+pub returns-in-Ok-reply_to-clause-write : goal.returns-in-Ok-reply_to-clause-write
+returns-in-Ok-reply_to-clause-write g c is = c.write_reply.ensures.write (no_write_status _ (reply_status _ _ _ _ c.in-Ok-reply_to.ensures.reply)) is
