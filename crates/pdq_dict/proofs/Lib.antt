@@ -1,0 +1,6 @@
+pub mod TextOrder
+pub mod Noting
+pub mod Rising
+pub mod Keys
+pub mod Dictionaries
+pub mod Codes

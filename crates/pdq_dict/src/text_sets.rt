@@ -1,0 +1,95 @@
+//! Sets of texts, each text once and with a place.
+ghost use Rattle.std.specs.Prelude.{◌≡◌, ◌<◌, ◌↔◌, [], IfOk, IfSome, IsPermutation, IsSome, OnOk, count_by, length, option_copied, position, slice_get};
+ghost use Rattle.std.specs.List.Sorted.{IsStrictlySortedBy};
+ghost use Rattle.std.specs.Ordering.{is_lt};
+ghost use Rattle.pdq_dict.specs.Texts.{is_text, noted, text_cmp};
+
+use indexmap::IndexSet;
+use pdq_base::Memory;
+use std::alloc::Global;
+use std::marker::Model;
+
+/// A set of texts, seen as the list of them in the order of their places.
+#[derive(Debug, Drop)]
+pub struct TextSet {
+    texts: IndexSet<Vec<u8>>,
+}
+
+impl Model for TextSet {
+    ghost use Rattle.std.specs.Prelude.{List, ℕ, map};
+
+    ghost Value = { List (List ℕ) };
+
+    ghost view = { λ s. map (λ t. t.items) s.texts.keys };
+}
+
+impl TextSet {
+    /// No text.
+    pub fn new(alloc: Global) -> TextSet
+        ensures empty { result ≡ [] }
+    {
+        TextSet {
+            texts: IndexSet::new(alloc),
+        }
+    }
+
+    /// Takes in a text: one that is there stays in its place, a new one is copied and goes last.
+    ///
+    /// # Errors
+    /// `Memory` where it is wanting.
+    pub fn note(&mut self, alloc: Global, text: &[u8]) -> Result<(), Memory>
+        ensures noted { OnOk result (self.new ≡ noted self.old text.now) }
+    {
+        if self.texts.contains(text) {
+            return Ok(());
+        }
+        let Ok(copy) = Vec::from_slice(alloc, text) else {
+            return Err(Memory);
+        };
+        let Ok(_) = self.texts.insert(copy) else {
+            return Err(Memory);
+        };
+        Ok(())
+    }
+
+    /// Puts the texts in the order of their bytes.
+    ///
+    /// # Errors
+    /// `Memory` where it is wanting.
+    pub fn sort(&mut self) -> Result<(), Memory>
+        ensures rising { OnOk result (IsStrictlySortedBy text_cmp self.new) }
+        ensures same { IsPermutation self.old self.new }
+    {
+        let Ok(()) = self.texts.sort_unstable() else {
+            return Err(Memory);
+        };
+        Ok(())
+    }
+
+    /// The place of a text.
+    pub fn position(&self, text: &[u8]) -> Option<usize>
+        ensures position { result ≡ position (is_text text.now) self.now }
+    {
+        self.texts.get_index_of(text)
+    }
+
+    /// How many texts are less, where the texts are in order.
+    pub fn lesser(&self, text: &[u8]) -> usize
+        requires rising { IsStrictlySortedBy text_cmp self.now }
+        ensures count { result ≡ count_by (λ t. is_lt (text_cmp t text.now)) self.now }
+    {
+        self.texts.partition_point(
+            |t: &Vec<u8>| -> bool
+                ensures { result ≡ is_lt (text_cmp t.now.items text.entry.now) }
+            { t.as_slice().cmp(&text).is_lt() },
+        )
+    }
+
+    /// The text at a place.
+    pub fn text(&self, place: usize) -> &[u8]
+        requires there { place < length self.now }
+        ensures text { slice_get self.now place ≡ Some result.now }
+    {
+        &self.texts.as_slice()[place]
+    }
+}

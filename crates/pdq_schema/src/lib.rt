@@ -1,0 +1,20 @@
+//! The schema file: the shapes of tables, their files, and how their rows are cut into fragments.
+#![tactic(auto)]
+
+mod columns;
+mod cuts;
+mod cutting;
+mod entries;
+mod faults;
+mod keys;
+mod ranges;
+mod reading;
+mod schema;
+#[cfg(test)]
+mod tests;
+mod tree;
+
+pub use cuts::{Cut, Range};
+pub use faults::{SchemaFault, SchemaWhy};
+pub use reading::read_schema;
+pub use schema::Schema;
