@@ -1,5 +1,9 @@
 -- How bytes are cut into lines.
-use Rattle.std.specs.Prelude.{ℕ, ◌+◌, ◌-◌, List, [], ◌∷◌, Bool, true, false, not, ◌&&◌, ◌==◌, nat_lt, if◌then◌else◌, length, take, take_while, slice_index}
+use Rattle.std.specs.Prelude.{ℕ, ◌+◌, ◌-◌, List, [], ◌∷◌, Bool, true, false, not, ◌&&◌, ◌||◌, ◌==◌, nat_lt, if◌then◌else◌, length, take, take_while, slice_index}
+
+-- a blank: byte 32 or 9
+abbrev pub is_blank : ℕ → Bool
+is_blank b = b == 32 || b == 9
 
 -- the bytes of a line, and whether a line end (byte 10) follows them
 pub record InputLine : Type 0 where

@@ -2,7 +2,8 @@
 use Rattle.std.proofs.Common.{ℕ, suc, ◌≡◌, ◌∙◌, Bool, true, false, cond, List, [], ◌∷◌, ◌++◌, refl, ap, ap₂, sym, append_assoc, append-nil, Option, Some, None}
 use Rattle.std.specs.List.{slice_split, onto_first}
 use Rattle.pdq_value.specs.declared.shapes.Column.{Column}
-use Rattle.pdq_value.specs.Header.{column_of, columns_of, is_blank, with_column}
+use Rattle.pdq_base.specs.Lines.{is_blank}
+use Rattle.pdq_value.specs.Header.{column_of, columns_of, with_column}
 
 -- these columns and then those, where there are some
 abbrev pub after_columns : List Column → Option (List Column) → Option (List Column)

@@ -18,3 +18,4 @@ pub mod NumberBounds
 pub mod PlainTables
 pub mod RowReading
 pub mod RowTextLaws
+pub mod LeadLaws

@@ -1,15 +1,13 @@
 -- The first line of a plain table: `table`, its name and its columns, with one blank between.
-use Rattle.std.specs.Prelude.{ℕ, zero, suc, ◌+◌, ◌-◌, List, [], ◌∷◌, Bool, true, not, ◌&&◌, ◌||◌, ◌==◌, nat_le, nat_lt, if◌then◌else◌, Option, None, Some, codes, length, take, drop, position, slice_index}
+use Rattle.std.specs.Prelude.{ℕ, zero, suc, ◌+◌, ◌-◌, List, [], ◌∷◌, Bool, true, not, ◌&&◌, ◌==◌, nat_le, nat_lt, if◌then◌else◌, Option, None, Some, codes, length, take, drop, position, slice_index}
 use Rattle.std.specs.List.{list_any, slice_split}
 use Rattle.std.specs.Str.{bytes_eq}
+use Rattle.pdq_base.specs.Lines.{is_blank}
 use Rattle.pdq_value.specs.declared.shapes.Column.{Column}
 use Rattle.pdq_value.specs.declared.shapes.Kind.{Kind}
 use Rattle.pdq_value.specs.declared.shapes.Kind.TheVariants.{Number, Words}
 use Rattle.pdq_value.specs.Names.{is_name}
 use Rattle.pdq_value.specs.Tables.{ShapeView}
-
-abbrev pub is_blank : ℕ → Bool
-is_blank b = b == 32 || b == 9
 
 abbrev pub is_colon : ℕ → Bool
 is_colon b = b == 58

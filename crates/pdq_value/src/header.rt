@@ -2,21 +2,16 @@
 ghost use Rattle.std.specs.Prelude.{◌≡◌, ◌∷◌, ◌<◌, length, IfOk, IfSome, map, option_map, position};
 ghost use Rattle.std.specs.List.{list_any, slice_split};
 ghost use Rattle.std.specs.Str.{bytes_eq};
-ghost use Rattle.pdq_value.specs.Header.{column_of, columns_of, header_shape, is_blank, is_colon, is_number_kind, kind_of, names_differ, parts_of, shape_with};
+ghost use Rattle.pdq_base.specs.Lines.{is_blank};
+ghost use Rattle.pdq_value.specs.Header.{column_of, columns_of, header_shape, is_colon, is_number_kind, kind_of, names_differ, parts_of, shape_with};
 ghost use Rattle.pdq_value.specs.Tables.{IsShape, shape_of};
 ghost use Rattle.pdq_value.specs.declared.shapes.Column.{Column};
 
-use crate::names::{is_name, is_text};
+use crate::names::is_name;
 use crate::shapes::{Column, Kind, TableShape};
 use crate::texts::Name;
-use pdq_base::Memory;
+use pdq_base::{Memory, is_blank, is_text};
 use std::alloc::Global;
-
-fn is_blank(b: u8) -> bool
-    ensures value { result ≡ is_blank b }
-{
-    b == b' ' || b == b'\t'
-}
 
 fn blank_at(bytes: &[u8]) -> Option<usize>
     ensures value { result ≡ position is_blank bytes.now }

@@ -1,8 +1,9 @@
 //! The names that tables and columns can have.
 ghost use Rattle.std.specs.Prelude.{◌≡◌};
 ghost use Rattle.std.specs.List.{list_all};
-ghost use Rattle.std.specs.Str.{bytes_eq};
 ghost use Rattle.pdq_value.specs.Names.{begins_lower, is_lower, is_name, is_name_byte, is_reserved};
+
+use pdq_base::is_text;
 
 fn is_lower(b: u8) -> bool
     ensures value { result ≡ is_lower b }
@@ -29,13 +30,6 @@ fn all_name_bytes(bytes: &[u8]) -> bool
     ensures value { result ≡ list_all is_name_byte bytes.now }
 {
     bytes.iter().all(|b| is_name_byte(*b))
-}
-
-/// Whether the bytes are these.
-pub(crate) fn is_text(bytes: &[u8], text: &[u8]) -> bool
-    ensures value { result ≡ bytes_eq bytes.now text.now }
-{
-    bytes == text
 }
 
 /// Whether the word is one of the language's own.

@@ -13,7 +13,7 @@ use crate::numbers::read_number;
 use crate::row_lines::{first_cell_end, text_of_cell};
 use crate::shapes::{Column, Kind, Row, Table, TableShape, Value};
 use crate::texts::Text;
-use pdq_base::Memory;
+use pdq_base::{Memory, is_utf8, without_return};
 use std::alloc::Global;
 
 /// The most bytes of a plain table.
@@ -60,15 +60,6 @@ fn read_value(
             Ok(number) => Ok(Value::Number(number)),
             Err(_) => Err(fault(LoadWhy::BadNumber, row_no, column)),
         },
-    }
-}
-
-fn is_utf8(bytes: &[u8]) -> bool
-    ensures value { result ≡ is_utf8 bytes.now }
-{
-    match std::str::from_utf8(bytes) {
-        Ok(_) => true,
-        Err(_) => false,
     }
 }
 
@@ -189,20 +180,6 @@ fn line_end_at(bytes: &[u8]) -> Option<usize>
     ensures within { IfSome result (λ end. end < length bytes.now) }
 {
     bytes.iter().position(|b| is_line_end(*b))
-}
-
-/// The line without one byte 13 at its end.
-#[tactic(auto, unfolding(pdq_base::specs::Lines::without_return))]
-fn without_return(line: &[u8]) -> &[u8]
-    ensures value { result.now ≡ without_return line.now }
-    ensures shorter { length result.now ≤ length line.now }
-{
-    let len = line.len();
-    if len > 0 && line[len - 1] == b'\r' {
-        &line[..len - 1]
-    } else {
-        line
-    }
 }
 
 /// What the first line says, and the bytes after it.

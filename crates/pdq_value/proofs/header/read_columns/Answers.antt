@@ -1,6 +1,7 @@
 use Rattle.std.proofs.Common.{◌≡◌, ◌-◌, ◌+◌, ap, sym, ◌∙◌, arith}
 use Rattle.std.specs.List.{slice_split}
-use Rattle.pdq_value.specs.Header.{columns_of, is_blank}
+use Rattle.pdq_base.specs.Lines.{is_blank}
+use Rattle.pdq_value.specs.Header.{columns_of}
 use Rattle.pdq_value.proofs.Headers.{after_columns, after_none, last_column, one_column, no_column, too_many}
 use Rattle.pdq_value.proofs.header.read_columns.Goals as goal
 

@@ -1,6 +1,7 @@
 use Rattle.std.proofs.Common.{◌≡◌, ◌-◌, ◌≤◌}
 use Rattle.std.specs.List.{slice_split}
-use Rattle.pdq_value.specs.Header.{columns_of, is_blank}
+use Rattle.pdq_base.specs.Lines.{is_blank}
+use Rattle.pdq_value.specs.Header.{columns_of}
 use Rattle.pdq_value.proofs.Headers.{after_columns}
 use Rattle.pdq_value.proofs.header.read_columns.Given as goal
 
