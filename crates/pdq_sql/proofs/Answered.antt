@@ -14,7 +14,8 @@ use Rattle.pdq_sql.specs.declared.reading.Unread.TheVariants.{At, Ended}
 use Rattle.pdq_sql.specs.declared.tokens.Token.{Token}
 use Rattle.pdq_sql.specs.Asts.{AstView, ast_of}
 use Rattle.pdq_sql.specs.Commands.{CommandView, command_of}
-use Rattle.pdq_sql.specs.Tokens.{is_blank, token_of, tokens_from, tokens_of}
+use Rattle.pdq_base.specs.Lines.{is_blank}
+use Rattle.pdq_sql.specs.Tokens.{token_of, tokens_from, tokens_of}
 use Rattle.pdq_sql.specs.Reading.{◌>>=◌, Fails, placed, refusal_of, IsRefusedAs, IsReadAs, whole_select_of, select_reading}
 use Rattle.pdq_sql.specs.LineReading.{is_silent, verb_at, whole_line_of, line_reading}
 use Rattle.pdq_sql.specs.Grammar.{IsSelect, IsBadPlace, Accepts, IsRefusedFor, IsRefusal}

@@ -11,7 +11,8 @@ use Rattle.pdq_sql.specs.declared.tokens.Mark.TheVariants as mark
 use Rattle.pdq_sql.specs.declared.tokens.TokenKind.{TokenKind}
 use Rattle.pdq_sql.specs.declared.tokens.TokenKind.TheVariants.{Fixed, Bad}
 use Rattle.pdq_sql.specs.declared.tokens.Token.{Token}
-use Rattle.pdq_sql.specs.Tokens.{is_blank, is_word_byte, run_of, QuotedText, grown, passed, quote_of, fraction_len, number_len, word_token, number_token, text_token, option_token, option_of, begins_word, minus_token, begins, symbol_token, token_of, tokens_from, tokens_of}
+use Rattle.pdq_base.specs.Lines.{is_blank}
+use Rattle.pdq_sql.specs.Tokens.{is_word_byte, run_of, QuotedText, grown, passed, quote_of, fraction_len, number_len, word_token, number_token, text_token, option_token, option_of, begins_word, minus_token, begins, symbol_token, token_of, tokens_from, tokens_of}
 
 drop_past : (bytes : List ℕ) (n : ℕ) → length bytes ≤ n → drop n bytes ≡ []
 drop_past [] zero le = refl

@@ -13,3 +13,4 @@ mod Lines
 mod LineRuns
 mod Places
 mod Answered
+mod Reserved

@@ -11,7 +11,8 @@ use Rattle.pdq_sql.specs.declared.tokens.Mark.TheVariants as mark
 use Rattle.pdq_sql.specs.declared.tokens.TokenKind.TheVariants.{Fixed}
 use Rattle.pdq_sql.specs.declared.line_reading.Verb.{Verb}
 use Rattle.pdq_sql.specs.declared.line_reading.Verb.TheVariants as verb
-use Rattle.pdq_sql.specs.Tokens.{is_blank, token_of, tokens_from, tokens_of}
+use Rattle.pdq_base.specs.Lines.{is_blank}
+use Rattle.pdq_sql.specs.Tokens.{token_of, tokens_from, tokens_of}
 use Rattle.pdq_sql.specs.Grammar.{IsSelect, IsViable, IsBadPlace}
 use Rattle.pdq_sql.proofs.Sound.{is_select}
 use Rattle.pdq_sql.proofs.Complete.{reads_select}

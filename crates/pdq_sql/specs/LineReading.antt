@@ -17,7 +17,8 @@ use Rattle.pdq_sql.specs.declared.commands.Level.{Level}
 use Rattle.pdq_sql.specs.declared.commands.Level.TheVariants as level
 use Rattle.pdq_sql.specs.Commands.{CommandView}
 use Rattle.pdq_sql.specs.Commands as command
-use Rattle.pdq_sql.specs.Tokens.{is_blank, tokens_of}
+use Rattle.pdq_base.specs.Lines.{is_blank}
+use Rattle.pdq_sql.specs.Tokens.{tokens_of}
 use Rattle.pdq_sql.specs.Reading.{Parse, ◌>>=◌, needed, expect_of, number_of, select_of, at_end, placed}
 
 abbrev pub script_verb_of : List ℕ → Option Verb

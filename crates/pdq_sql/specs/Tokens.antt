@@ -2,6 +2,7 @@
 use Rattle.std.specs.Prelude.{ℕ, zero, suc, ◌+◌, ◌-◌, ◌*◌, length, min, option_map, List, [], ◌∷◌, take, drop, map, Option, Some, None, Bool, true, false, not, ◌&&◌, ◌||◌, ◌==◌, nat_le, if◌then◌else◌, codes}
 use Rattle.std.specs.Char.{is_ascii_alphabetic, is_ascii_digit, to_ascii_lowercase}
 use Rattle.std.specs.Str.{is_utf8, bytes_eq}
+use Rattle.pdq_base.specs.Lines.{is_blank}
 use Rattle.pdq_query.specs.declared.query.Compare.{Compare}
 use Rattle.pdq_query.specs.declared.query.Compare.TheVariants.{Eq, Ne, Lt, Le, Gt, Ge}
 use Rattle.pdq_sql.specs.declared.tokens.Mark.{Mark}
@@ -10,10 +11,6 @@ use Rattle.pdq_sql.specs.declared.commands.Letter.TheVariants as letter
 use Rattle.pdq_sql.specs.declared.tokens.TokenKind.{TokenKind}
 use Rattle.pdq_sql.specs.declared.tokens.TokenKind.TheVariants.{Fixed, Word, Number, Quoted, Switch, Bad}
 use Rattle.pdq_sql.specs.declared.tokens.Token.{Token}
-
--- a blank or a tab
-abbrev pub is_blank : ℕ → Bool
-is_blank b = b == 32 || b == 9
 
 -- a letter, a digit or _
 abbrev pub is_word_byte : ℕ → Bool

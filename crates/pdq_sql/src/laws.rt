@@ -1,11 +1,12 @@
 //! The laws of the grammar: what is read is what it has, and what is refused is refused at its bad place. Each stands on a function
 //! with nothing to do.
-ghost use Rattle.std.specs.Prelude.{◌≡◌, ◌↔◌, ℕ, List, Ok, Err, Some, None, true, false};
+ghost use Rattle.std.specs.Prelude.{◌≡◌, ◌↔◌, ℕ, List, Ok, Err, Some, None, is_some, true, false};
 ghost use Rattle.pdq_sql.specs.declared.commands.LineHome.{LineHome};
 ghost use Rattle.pdq_sql.specs.declared.tokens.Token.{Token};
 ghost use Rattle.pdq_sql.specs.Asts.{AstView};
 ghost use Rattle.pdq_sql.specs.Commands.{CommandView};
-ghost use Rattle.pdq_sql.specs.Tokens.{tokens_of};
+ghost use Rattle.pdq_value.specs.Names.{is_reserved};
+ghost use Rattle.pdq_sql.specs.Tokens.{reserved_of, tokens_of};
 ghost use Rattle.pdq_sql.specs.Reading.{select_reading};
 ghost use Rattle.pdq_sql.specs.LineReading.{is_silent, line_reading};
 ghost use Rattle.pdq_sql.specs.Grammar.{IsSelect, IsBadPlace};
@@ -24,6 +25,12 @@ pub fn line_reading_is_the_grammar()
         → (line_reading home line ≡ Ok (Some command)) ↔ IsLine home (tokens_of line) command }
     ensures refuses { (home : LineHome) (line : List ℕ) (place : ℕ) → is_silent line ≡ false
         → (line_reading home line ≡ Err place) ↔ IsBadPlace (IsLine home) (tokens_of line) place }
+{}
+
+/// The words that no table and no column can be called are just those that the grammar has as marks.
+#[tactic(auto, using(crate::proofs::Reserved::reserved_words_are_marks))]
+pub fn reserved_words_are_marks()
+    ensures law { (word : List ℕ) → is_reserved word ≡ is_some (reserved_of word) }
 {}
 
 /// Tokens are at most one select, and at most one line of a home.

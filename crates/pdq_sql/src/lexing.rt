@@ -2,20 +2,16 @@
 ghost use Rattle.std.specs.Prelude.{◌≡◌, ◌+◌, ◌^◌, ◌<◌, ◌≤◌, ◌++◌, length, IfOk, false};
 ghost use Rattle.std.specs.Char.{is_ascii_digit};
 ghost use Rattle.std.specs.Str.{is_utf8, bytes_eq};
-ghost use Rattle.pdq_sql.specs.Tokens.{is_blank, is_word_byte, run_of, lowered, reserved_of, word_token, number_len, number_token, quote_of, text_token, option_of, begins_word, minus_token, begins, symbol_token, token_of, tokens_of};
+ghost use Rattle.pdq_base.specs.Lines.{is_blank};
+ghost use Rattle.pdq_sql.specs.Tokens.{is_word_byte, run_of, lowered, reserved_of, word_token, number_len, number_token, quote_of, text_token, option_of, begins_word, minus_token, begins, symbol_token, token_of, tokens_of};
 
 use crate::commands::Letter;
 use crate::tokens::{Mark, Token, TokenKind};
+use pdq_base::{is_blank, is_text, is_utf8};
 use pdq_value::{Name, Text};
 use std::alloc::{AllocError, Global};
 
 const MOST_WORD: usize = 32;
-
-pub(crate) fn is_blank(byte: u8) -> bool
-    ensures value { result ≡ is_blank byte }
-{
-    byte == b' ' || byte == b'\t'
-}
 
 fn is_word_byte(byte: u8) -> bool
     ensures value { result ≡ is_word_byte byte }
@@ -23,7 +19,7 @@ fn is_word_byte(byte: u8) -> bool
     byte.is_ascii_alphabetic() || byte.is_ascii_digit() || byte == b'_'
 }
 
-/// How parts bytes at the front belong to a word.
+/// How many bytes at the front belong to a word.
 fn word_len(bytes: &[u8]) -> usize
     ensures count { result ≡ run_of is_word_byte bytes.now }
     ensures within { result ≤ length bytes.now }
@@ -35,7 +31,7 @@ fn word_len(bytes: &[u8]) -> usize
     n
 }
 
-/// How parts bytes at the front are digits.
+/// How many bytes at the front are digits.
 fn digits_len(bytes: &[u8]) -> usize
     ensures count { result ≡ run_of is_ascii_digit bytes.now }
     ensures within { result ≤ length bytes.now }
@@ -45,12 +41,6 @@ fn digits_len(bytes: &[u8]) -> usize
         n += 1;
     }
     n
-}
-
-pub(crate) fn is_text(bytes: &[u8], text: &[u8]) -> bool
-    ensures value { result ≡ bytes_eq bytes.now text.now }
-{
-    bytes == text
 }
 
 /// The reserved word that a word is.
@@ -168,20 +158,10 @@ fn quoted(alloc: Global, bytes: &[u8]) -> Result<(TokenKind, usize), AllocError>
     ensures value { IfOk result (λ r. r ≡ text_token bytes.now) }
 {
     let (text, n, is_closed) = quote(alloc, bytes)?;
-    if is_closed && is_valid(&text) {
+    if is_closed && is_utf8(&text) {
         Ok((TokenKind::Quoted(Text::new(text)), n + 1))
     } else {
         Ok((TokenKind::Bad, n + 1))
-    }
-}
-
-/// Whether these bytes are UTF-8.
-pub(crate) fn is_valid(bytes: &[u8]) -> bool
-    ensures value { result ≡ is_utf8 bytes.now }
-{
-    match std::str::from_utf8(bytes) {
-        Ok(_) => true,
-        Err(_) => false,
     }
 }
 

@@ -19,7 +19,8 @@ pub use ast::{
 pub use commands::{Command, Letter, Level, LineHome};
 pub use faults::{SqlFault, SqlWhy};
 pub use laws::{
-    has_one_bad_place, has_one_reading, line_reading_is_the_grammar, select_reading_is_the_grammar,
+    has_one_bad_place, has_one_reading, line_reading_is_the_grammar, reserved_words_are_marks,
+    select_reading_is_the_grammar,
 };
 pub use line_reading::read_line;
 pub use pdq_query::{At, Compare, Filter, Item, Key, Query};

@@ -7,13 +7,15 @@ ghost use Rattle.pdq_sql.specs.Grammar.{Accepts, IsRefusal};
 ghost use Rattle.pdq_sql.specs.LineGrammar.{IsLine, AcceptsLine};
 ghost use Rattle.pdq_sql.specs.LineReading.{is_silent, has_no_end, script_verb_of, session_verb_of, verb_of, verb_at, next_word, word_at, level_of, mode_of, user_of, command_after, whole_line_of, line_reading};
 ghost use Rattle.pdq_sql.specs.Commands.{CommandView, command_of};
+ghost use Rattle.pdq_sql.specs.declared.line_reading.Verb.TheVariants as verb;
 
 use crate::ast::Ast;
 use crate::commands::{Command, Letter, Level, LineHome};
 use crate::faults::SqlFault;
-use crate::lexing::{is_blank, is_text, tokens};
+use crate::lexing::tokens;
 use crate::reading::{NO_MEMORY, ParseFault, Unread, expect, number, select, unread_of};
 use crate::tokens::{Mark, Token, TokenKind};
+use pdq_base::{is_blank, is_text};
 use std::alloc::Global;
 
 /// The first word of a line.
@@ -201,6 +203,46 @@ fn user(tokens: &[Token]) -> Result<(bool, &[Token]), ParseFault>
     }
 }
 
+/// What follows `SET`.
+#[tactic(auto, unfolding(crate::specs::LineReading::command_after))]
+fn set_priority(tokens: &[Token]) -> Result<(Command, &[Token]), ParseFault>
+    ensures value { Gives (λ x. (command_of x.0, x.1.now)) result (command_after verb.Set tokens.now) }
+{
+    let rest = word(b"pdqpriority", tokens)?;
+    let (level, rest) = read_level(rest)?;
+    Ok((Command::SetPriority(level), rest))
+}
+
+/// What follows `ONSTAT`.
+#[tactic(auto, unfolding(crate::specs::LineReading::command_after))]
+fn onstat(tokens: &[Token]) -> Result<(Command, &[Token]), ParseFault>
+    ensures value { Gives (λ x. (command_of x.0, x.1.now)) result (command_after verb.Onstat tokens.now) }
+{
+    let rest = expect(Mark::Statistics, tokens)?;
+    let rest = word(b"mgm", rest)?;
+    Ok((Command::Onstat, rest))
+}
+
+/// What follows `ONMODE`.
+#[tactic(auto, unfolding(crate::specs::LineReading::command_after))]
+fn onmode(tokens: &[Token]) -> Result<(Command, &[Token]), ParseFault>
+    ensures value { Gives (λ x. (command_of x.0, x.1.now)) result (command_after verb.Onmode tokens.now) }
+{
+    let (letter, rest) = mode(tokens)?;
+    let (value, rest) = number(rest)?;
+    Ok((Command::Onmode { letter, value }, rest))
+}
+
+/// What follows `CLAIM`.
+#[tactic(auto, unfolding(crate::specs::LineReading::command_after))]
+fn claim(tokens: &[Token]) -> Result<(Command, &[Token]), ParseFault>
+    ensures value { Gives (λ x. (command_of x.0, x.1.now)) result (command_after verb.Claim tokens.now) }
+{
+    let (priority, rest) = number(tokens)?;
+    let (frags, rest) = number(rest)?;
+    Ok((Command::Claim { priority, frags }, rest))
+}
+
 /// What follows a verb.
 #[tactic(auto, unfolding(crate::specs::LineReading::command_after))]
 fn command_after(
@@ -211,11 +253,7 @@ fn command_after(
     ensures value { Gives (λ x. (command_of x.0, x.1.now)) result (command_after verb tokens.now) }
 {
     match verb {
-        Verb::Set => {
-            let rest = word(b"pdqpriority", tokens)?;
-            let (level, rest) = read_level(rest)?;
-            Ok((Command::SetPriority(level), rest))
-        }
+        Verb::Set => set_priority(tokens),
         Verb::Query => {
             let (ast, rest) = select(alloc, tokens)?;
             Ok((Command::Query(ast), rest))
@@ -224,21 +262,9 @@ fn command_after(
             let (id, rest) = number(tokens)?;
             Ok((Command::Cancel(id), rest))
         }
-        Verb::Onstat => {
-            let rest = expect(Mark::Statistics, tokens)?;
-            let rest = word(b"mgm", rest)?;
-            Ok((Command::Onstat, rest))
-        }
-        Verb::Onmode => {
-            let (letter, rest) = mode(tokens)?;
-            let (value, rest) = number(rest)?;
-            Ok((Command::Onmode { letter, value }, rest))
-        }
-        Verb::Claim => {
-            let (priority, rest) = number(tokens)?;
-            let (frags, rest) = number(rest)?;
-            Ok((Command::Claim { priority, frags }, rest))
-        }
+        Verb::Onstat => onstat(tokens),
+        Verb::Onmode => onmode(tokens),
+        Verb::Claim => claim(tokens),
         Verb::Run => {
             let (id, rest) = number(tokens)?;
             Ok((Command::Run(id), rest))

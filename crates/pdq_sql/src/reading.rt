@@ -278,6 +278,7 @@ fn test(alloc: Global, tokens: &[Token]) -> Result<(AstTest, &[Token]), ParseFau
     }
 }
 
+/// The whole number at the front, and what stands behind it.
 pub(crate) fn number(tokens: &[Token]) -> Result<(u32, &[Token]), ParseFault>
     ensures value { Gives (λ x. (x.0, x.1.now)) result (number_of tokens.now) }
 {
@@ -468,6 +469,7 @@ fn keys(alloc: Global, tokens: &[Token]) -> Result<(Vec<AstKey>, &[Token]), Pars
     }
 }
 
+/// The select at the front, and what stands behind it.
 #[tactic(auto, unfolding(crate::specs::Reading::select_of))]
 pub(crate) fn select(alloc: Global, tokens: &[Token]) -> Result<(Ast, &[Token]), ParseFault>
     ensures value { Gives (λ x. (ast_of x.0, x.1.now)) result (select_of tokens.now) }

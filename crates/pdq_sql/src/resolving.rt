@@ -21,8 +21,8 @@ use crate::ast::{
     AstTest,
 };
 use crate::faults::{SqlFault, SqlWhy};
-use crate::lexing::is_valid;
 use crate::resolving_checks::{first_fault, is_column};
+use pdq_base::is_utf8;
 use pdq_query::{At, Filter, Item, Key, Query};
 use pdq_value::{Column, Kind, Name, TableShape, Value, read_number};
 use std::alloc::{AllocError, AllocFailed, Global};
@@ -354,7 +354,7 @@ fn literal(alloc: Global, place: u32, kind: Kind, literal: &AstLiteral) -> Resul
             Kind::Words => Err(differs),
         },
         AstLiteral::Words(text) => match kind {
-            Kind::Words if is_valid(text.bytes()) => Ok(Value::Words(text.copy(alloc)?)),
+            Kind::Words if is_utf8(text.bytes()) => Ok(Value::Words(text.copy(alloc)?)),
             _ => Err(differs),
         },
     }

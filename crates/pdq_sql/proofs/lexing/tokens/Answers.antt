@@ -1,5 +1,5 @@
 use Rattle.std.proofs.Common.{◌≡◌, ◌++◌, sym, ap, ◌∙◌, true, false, get_or, arith}
-use Rattle.pdq_sql.specs.Tokens.{is_blank}
+use Rattle.pdq_base.specs.Lines.{is_blank}
 use Rattle.pdq_sql.proofs.Bytes.{taken, lex_blank, lex_end, lexed}
 use Rattle.pdq_sql.proofs.lexing.tokens.Goals as goal
 
