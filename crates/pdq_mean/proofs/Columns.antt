@@ -1,5 +1,5 @@
 -- Columns of choices, one choice more, and their folds.
-use Rattle.std.proofs.Common.{◌≡◌, ◌<◌, ◌≤◌, ◌+◌, ◌++◌, ℕ, zero, suc, List, [], ◌∷◌, sym, ap, ap₂, ◌∙◌, arith, length, get_or, map, take, max, ℤ, pos, ◌+ℤ◌, nat_abs, add-one}
+use Rattle.std.proofs.Common.{◌≡◌, ◌<◌, ◌≤◌, ◌+◌, ◌++◌, ℕ, zero, suc, List, [], ◌∷◌, sym, ap, ◌∙◌, arith, length, get_or, map, take, max, ℤ, pos, ◌+ℤ◌, nat_abs, add-one}
 use Rattle.std.proofs.Math.IntN.{+ℤ_assoc, +ℤ_comm}
 use Rattle.std.specs.Global.{Vec}
 use Rattle.std.proofs.lemmas.Int.{ints}
@@ -7,18 +7,17 @@ use Rattle.std.proofs.lemmas.List.{map-append}
 use Rattle.pdq_value.specs.declared.cells.Cell.{Cell}
 use Rattle.pdq_value.specs.Cells.{number_of, scale_of}
 use Rattle.pdq_value.specs.Tables.{TableView}
-use Rattle.pdq_query.specs.declared.query.At.{At}
 use Rattle.pdq_query.specs.Queries.{QueryView}
-use Rattle.pdq_query.specs.Conditions.{Choice, cell_in}
+use Rattle.pdq_query.specs.Conditions.{Choice}
 use Rattle.pdq_query.specs.Folds.{scale_in, total_of}
 use Rattle.pdq_mean.specs.Loops.{chosen}
-use Rattle.pdq_mean.specs.Groups.{cells_in, choices_of}
+use Rattle.pdq_mean.specs.Groups.{choices_of}
 
-total_of-append : (cs : List Cell) (c : Cell) → total_of (cs ++ c ∷ []) ≡ total_of cs +ℤ number_of c
+pub total_of-append : (cs : List Cell) (c : Cell) → total_of (cs ++ c ∷ []) ≡ total_of cs +ℤ number_of c
 total_of-append [] c = +ℤ_comm (number_of c) (pos 0)
 total_of-append (x ∷ cs) c = ap (λ z. number_of x +ℤ z) (total_of-append cs c) ∙ sym (+ℤ_assoc (number_of x) (total_of cs) (number_of c))
 
-scale_in-append : (cs : List Cell) (c : Cell) → scale_in (cs ++ c ∷ []) ≡ max (scale_in cs) (scale_of c)
+pub scale_in-append : (cs : List Cell) (c : Cell) → scale_in (cs ++ c ∷ []) ≡ max (scale_in cs) (scale_of c)
 scale_in-append [] c = omega arith
 scale_in-append (x ∷ cs) c = let h = scale_in-append cs c in omega arith
 
@@ -37,10 +36,3 @@ module _ (tables : List TableView) (q : QueryView) where
 
   pub mapped-more : {X : Type 0} (f : Choice → X) (vs : List (Vec ℕ)) (i : ℕ) (v : Vec ℕ) → i < length vs → v ≡ get_or vs i v → map f (choices_of tables q (take (i + 1) vs)) ≡ map f (choices_of tables q (take i vs)) ++ f (chosen tables q v.items) ∷ []
   mapped-more f vs i v below is = ap (map f) (choices_of-more vs i v below is) ∙ map-append f (choices_of tables q (take i vs)) (chosen tables q v.items ∷ [])
-
-  module _ (at : At) (vs : List (Vec ℕ)) (i : ℕ) (v : Vec ℕ) (below : i < length vs) (is : v ≡ get_or vs i v) where
-    pub total_of-more : (sum number : ℤ) → sum ≡ total_of (cells_in tables q at (take i vs)) → number ≡ number_of (cell_in (chosen tables q v.items) at) → sum +ℤ number ≡ total_of (cells_in tables q at (take (i + 1) vs))
-    total_of-more sum number e f = ap₂ (λ a b. a +ℤ b) e f ∙ sym (total_of-append (cells_in tables q at (take i vs)) (cell_in (chosen tables q v.items) at)) ∙ ap total_of (sym (mapped-more (λ c. cell_in c at) vs i v below is))
-
-    pub scale_in-more : (most scale : ℕ) → most ≡ scale_in (cells_in tables q at (take i vs)) → scale ≡ scale_of (cell_in (chosen tables q v.items) at) → max most scale ≡ scale_in (cells_in tables q at (take (i + 1) vs))
-    scale_in-more most scale e f = ap₂ max e f ∙ sym (scale_in-append (cells_in tables q at (take i vs)) (cell_in (chosen tables q v.items) at)) ∙ ap scale_in (sym (mapped-more (λ c. cell_in c at) vs i v below is))

@@ -1,5 +1,5 @@
 -- What the evaluator gathers, sorted, is the answer.
-use Rattle.std.proofs.Common.{◌≡◌, ◌<◌, ◌≤◌, ◌+◌, ℕ, zero, suc, List, [], ◌∷◌, true, false, cond, ◌||◌, nat_lt, refl, sym, ap, ap₂, ◌∙◌, subst, arith, length, get_or, map, filter, is_lt, IsPermutation, IsSorted, Some, None, lt-ltb, le-ltb}
+use Rattle.std.proofs.Common.{◌≡◌, ◌<◌, ◌≤◌, ◌+◌, ℕ, List, [], ◌∷◌, true, false, cond, ◌||◌, nat_lt, refl, sym, ap, ap₂, ◌∙◌, subst, arith, length, get_or, map, filter, is_lt, IsPermutation, IsSorted, Some, None, lt-ltb, le-ltb}
 use Rattle.std.specs.Global.{Vec}
 use Rattle.std.proofs.lemmas.List.{length-map}
 use Rattle.std.proofs.lemmas.List.Sorted.{IsPermutation-map}
@@ -13,17 +13,12 @@ use Rattle.pdq_query.specs.Queries.{QueryView}
 use Rattle.pdq_query.specs.Conditions.{Choice, cell_in}
 use Rattle.pdq_query.specs.Folds.{group_rows, is_fold, is_grouped, is_row, item_of_group, key_of, keys_of}
 use Rattle.pdq_query.specs.Answer.{answer, answer_cmp, answer_of, choices, projected, row_limit, rows_of}
-use Rattle.pdq_query.proofs.Answering.{group_rows-alike}
 use Rattle.pdq_query.proofs.Planning.{answers_sort_one_way}
 use Rattle.pdq_mean.specs.Loops.{chosen, lists_of}
 use Rattle.pdq_mean.specs.Groups.{choices_of, first_key}
 use Rattle.pdq_mean.specs.Rows.{vector_cmp}
 use Rattle.pdq_mean.proofs.Kept.{get_or-mapped}
-
-get_or-any : {X : Type 0} (xs : List X) (i : ℕ) (d e : X) → i < length xs → get_or xs i d ≡ get_or xs i e
-get_or-any [] i d e below = absurd (omega arith)
-get_or-any (x ∷ xs) zero d e below = refl
-get_or-any (x ∷ xs) (suc i) d e below = get_or-any xs i d e (omega arith)
+use Rattle.pdq_mean.proofs.PlainItems.{get_or-any}
 
 list_at : (vs : List (Vec Cell)) (v : Vec Cell) (k : ℕ) (d : List Cell) → k < length vs → get_or (lists_of vs) k d ≡ (get_or vs k v).items
 list_at vs v k d below = get_or-mapped (λ (w : Vec Cell). w.items) vs k (get_or vs k v) d below (get_or-any vs k v (get_or vs k v) below)
@@ -48,10 +43,6 @@ module _ (tables : List TableView) (q : QueryView) where
   pub too_many : row_limit < length (choices tables q) → answer tables q ≡ None
   unfolding answer_of
   too_many h = ap (λ b. cond b None (Some (in_order (answer_cmp q.keys) (rows_of q (choices tables q))))) (lt-ltb row_limit (length (choices tables q)) h)
-
-  -- the rows of groups do not depend on the order of the choices
-  pub group_rows-moved : (vs ws : List (Vec ℕ)) → IsPermutation vs ws → group_rows q (choices_of tables q ws) ≡ group_rows q (choices_of tables q vs)
-  group_rows-moved vs ws moved = sym (group_rows-alike q (choices_of tables q vs) (choices_of tables q ws) (IsPermutation-map (chosen tables q) (lists_of vs) (lists_of ws) (IsPermutation-map (λ (v : Vec ℕ). v.items) vs ws moved)))
 
 -- without group columns all choices make one row
 module _ (q : QueryView) (alone : q.groups ≡ []) where

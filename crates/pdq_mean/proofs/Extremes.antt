@@ -1,8 +1,6 @@
--- The least and the greatest cell of a column, one choice more.
-use Rattle.std.proofs.Common.{◌≡◌, ◌<◌, ◌≤◌, ◌+◌, ◌-◌, ◌++◌, ℕ, zero, suc, List, [], ◌∷◌, Bool, true, false, cond, refl, sym, ap, ap₂, ◌∙◌, arith, length, get_or, take, is_lt, IsPermutation, length-append, add-one, true≢false}
+-- The least and the greatest of some cells.
+use Rattle.std.proofs.Common.{◌≡◌, ◌<◌, ◌-◌, ◌++◌, ℕ, zero, suc, List, [], ◌∷◌, Bool, true, false, cond, refl, sym, ap, ap₂, ◌∙◌, arith, length, is_lt, IsPermutation, length-append, true≢false}
 use Rattle.std.specs.Cmp.{IsStrictWeakOrder}
-use Rattle.std.specs.Global.{Vec}
-use Rattle.std.proofs.lemmas.List.{take_all}
 use Rattle.std.proofs.lemmas.List.Sorted.{IsPermutation-append_comm, length_permutation}
 use Rattle.pdq_base.specs.Sorting.{in_order, in_order_by, put_in_place}
 use Rattle.pdq_base.proofs.SortedLists.{Rises, after, tail}
@@ -10,15 +8,8 @@ use Rattle.pdq_base.proofs.InOrder.{in_order-IsPermutation, in_order-IsSorted, i
 use Rattle.pdq_value.specs.declared.cells.Cell.{Cell}
 use Rattle.pdq_value.specs.declared.cells.Cell.TheVariants.{Nothing}
 use Rattle.pdq_value.specs.Cells.{cell_at, cell_cmp}
-use Rattle.pdq_value.specs.Tables.{TableView}
 use Rattle.pdq_value.proofs.Orders.{cell_cmp-IsLinearOrder}
-use Rattle.pdq_query.specs.declared.query.At.{At}
-use Rattle.pdq_query.specs.Queries.{QueryView}
-use Rattle.pdq_query.specs.Conditions.{cell_in}
 use Rattle.pdq_query.specs.Folds.{greatest_of, least_of}
-use Rattle.pdq_mean.specs.Loops.{chosen}
-use Rattle.pdq_mean.specs.Groups.{cells_in}
-use Rattle.pdq_mean.proofs.Columns.{mapped-more}
 use Rattle.std.proofs.lemmas.List.Sorted.{sorted_far}
 
 abbrev comes_before : Cell → Cell → Bool
@@ -35,7 +26,8 @@ first_put c (y ∷ ys) h = first_of (comes_before c y)
 moved : (cs : List Cell) (c : Cell) → IsPermutation (cs ++ c ∷ []) (c ∷ cs)
 moved cs c = IsPermutation-append_comm cs (c ∷ [])
 
-least_step : (cs : List Cell) (c : Cell) → 0 < length cs → least_of (cs ++ c ∷ []) ≡ cond (comes_before c (least_of cs)) c (least_of cs)
+-- one cell more
+pub least_step : (cs : List Cell) (c : Cell) → 0 < length cs → least_of (cs ++ c ∷ []) ≡ cond (comes_before c (least_of cs)) c (least_of cs)
 unfolding in_order
 least_step cs c h =
     let same : length (in_order_by comes_before cs) ≡ length cs = length_permutation cs _ (in_order-IsPermutation cell_cmp-IsLinearOrder cs) in
@@ -72,54 +64,18 @@ rising : (cs : List Cell) → Rises comes_before (in_order_by comes_before cs)
 unfolding in_order
 rising cs i j d p q = sorted_far comes_before weak (in_order_by comes_before cs) (in_order-IsSorted cell_cmp-IsLinearOrder cs) i j d (omega arith) q
 
-greatest_step : (cs : List Cell) (c : Cell) → 0 < length cs → greatest_of (cs ++ c ∷ []) ≡ cond (comes_before c (greatest_of cs)) (greatest_of cs) c
+pub greatest_step : (cs : List Cell) (c : Cell) → 0 < length cs → greatest_of (cs ++ c ∷ []) ≡ cond (comes_before c (greatest_of cs)) (greatest_of cs) c
 unfolding in_order
 greatest_step cs c h =
     let same : length (in_order_by comes_before cs) ≡ length cs = length_permutation cs _ (in_order-IsPermutation cell_cmp-IsLinearOrder cs) in
     let last : length (cs ++ c ∷ []) - 1 ≡ suc (length cs - 1) = omega (arith, length-append cs (c ∷ [])) in
     ap₂ cell_at last (in_order-alike cell_cmp-IsLinearOrder (cs ++ c ∷ []) (c ∷ cs) (moved cs c)) ∙ last_put c (in_order_by comes_before cs) (length cs - 1) (omega arith) (rising cs)
 
-module _ (tables : List TableView) (q : QueryView) (at : At) (run : List (Vec ℕ)) (first : Vec ℕ) (rest : List (Vec ℕ)) (all : run ≡ first ∷ rest) where
-  one_cell : cells_in tables q at (take 1 run) ≡ cell_in (chosen tables q first.items) at ∷ []
-  one_cell = ap (λ l. cells_in tables q at (take 1 l)) all
+-- one cell
+pub least-one : (c : Cell) → c ≡ least_of (c ∷ [])
+unfolding in_order
+least-one c = refl
 
-  pub least-first : least_of (cells_in tables q at (take 1 run)) ≡ cell_in (chosen tables q first.items) at
-  unfolding in_order
-  least-first = ap least_of one_cell
-
-  pub greatest-first : greatest_of (cells_in tables q at (take 1 run)) ≡ cell_in (chosen tables q first.items) at
-  unfolding in_order
-  greatest-first = ap greatest_of one_cell
-
-  pub whole : (i : ℕ) → length rest ≤ i → take (i + 1) run ≡ run
-  whole i h = rw (all, add-one) (ap (λ l. first ∷ l) (take_all i rest h))
-
-  module _ (i : ℕ) (v : Vec ℕ) (below : i < length rest) (is : v ≡ get_or rest i v) where
-    next : v ≡ get_or run (i + 1) v
-    next = rw (all, add-one) is
-
-    more : i + 1 < length run
-    more = let size = ap length all in omega (arith, size)
-
-    filled : 0 < length (cells_in tables q at (take (i + 1) run))
-    filled = rw (all, add-one) (omega arith)
-
-    cells_more : cells_in tables q at (take (i + 1 + 1) run) ≡ cells_in tables q at (take (i + 1) run) ++ cell_in (chosen tables q v.items) at ∷ []
-    cells_more = mapped-more tables q (λ c. cell_in c at) run (i + 1) v more next
-
-    pub least-more : (m cell : Cell) → m ≡ least_of (cells_in tables q at (take (i + 1) run)) → cell ≡ cell_in (chosen tables q v.items) at → cond (is_lt (cell_cmp cell m)) cell m ≡ least_of (cells_in tables q at (take (i + 1 + 1) run))
-    least-more m cell e f = ap₂ (λ a b. cond (is_lt (cell_cmp b a)) b a) e f ∙ sym (least_step (cells_in tables q at (take (i + 1) run)) (cell_in (chosen tables q v.items) at) filled) ∙ ap least_of (sym cells_more)
-
-    pub greatest-more : (m cell : Cell) → m ≡ greatest_of (cells_in tables q at (take (i + 1) run)) → cell ≡ cell_in (chosen tables q v.items) at → cond (is_lt (cell_cmp cell m)) m cell ≡ greatest_of (cells_in tables q at (take (i + 1 + 1) run))
-    greatest-more m cell e f = ap₂ (λ a b. cond (is_lt (cell_cmp b a)) a b) e f ∙ sym (greatest_step (cells_in tables q at (take (i + 1) run)) (cell_in (chosen tables q v.items) at) filled) ∙ ap greatest_of (sym cells_more)
-
-module _ (tables : List TableView) (q : QueryView) (at : At) where
-  pub least-none : (run : List (Vec ℕ)) → length run ≡ 0 → Nothing ≡ least_of (cells_in tables q at run)
-  unfolding in_order
-  least-none [] e = refl
-  least-none (v ∷ run) e = absurd (omega (arith, e))
-
-  pub greatest-none : (run : List (Vec ℕ)) → length run ≡ 0 → Nothing ≡ greatest_of (cells_in tables q at run)
-  unfolding in_order
-  greatest-none [] e = refl
-  greatest-none (v ∷ run) e = absurd (omega (arith, e))
+pub greatest-one : (c : Cell) → c ≡ greatest_of (c ∷ [])
+unfolding in_order
+greatest-one c = refl

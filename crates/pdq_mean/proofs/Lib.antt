@@ -7,6 +7,10 @@ pub mod SmallCells
 pub mod Extremes
 pub mod PlainItems
 pub mod Sorts
-pub mod KeyRuns
 pub mod Evaluating
 pub mod Scales
+pub mod Tallying
+pub mod LeadOrders
+pub mod PlaceOrders
+pub mod KeyNumbering
+pub mod Grouping

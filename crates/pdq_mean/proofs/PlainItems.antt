@@ -1,21 +1,16 @@
 -- A plain item of a group is the cell of its first choice.
-use Rattle.std.proofs.Common.{◌≡◌, ◌<◌, ◌≤◌, ◌+◌, ℕ, zero, suc, not, cond, List, [], ◌∷◌, Bool, true, false, ◌&&◌, ◌==◌, refl, sym, ap, ap₂, ◌∙◌, arith, length, get_or, map, Contains, Option, Some, None, unwrap_or, true≢false, eqb-true, lt-ltb, lt_of_le_of_lt, pos}
-use Rattle.std.specs.Global.{Vec}
+use Rattle.std.proofs.Common.{◌≡◌, ◌<◌, ◌≤◌, ◌+◌, ℕ, zero, suc, not, cond, List, [], ◌∷◌, Bool, true, false, ◌&&◌, ◌==◌, refl, sym, ap, ap₂, ◌∙◌, arith, length, get_or, map, Contains, Option, Some, None, unwrap_or, true≢false, eqb-true, lt-ltb, lt_of_le_of_lt}
 use Rattle.std.specs.List.{position, position_or_len, prefix_len}
 use Rattle.std.proofs.lemmas.Cmp.{nat_eq_equiv}
-use Rattle.std.proofs.lemmas.List.{length-map}
 use Rattle.std.proofs.lemmas.List.Quantifiers.{position-Some}
-use Rattle.pdq_value.specs.declared.cells.Cell.{Cell}
-use Rattle.pdq_value.specs.declared.cells.Cell.TheVariants.{Nothing, Number}
+use Rattle.pdq_value.specs.declared.cells.Cell.TheVariants.{Nothing}
 use Rattle.pdq_value.specs.Cells.{cell_at}
-use Rattle.pdq_value.specs.Tables.{TableView}
 use Rattle.pdq_query.specs.declared.query.At.{At}
-use Rattle.pdq_query.specs.declared.query.Item.TheVariants.{Count, Plain}
+use Rattle.pdq_query.specs.declared.query.Item.TheVariants.{Plain}
 use Rattle.pdq_query.specs.Queries.{QueryView}
 use Rattle.pdq_query.specs.Conditions.{Choice, cell_in}
 use Rattle.pdq_query.specs.Folds.{is_column, item_of_group}
-use Rattle.pdq_mean.specs.Groups.{choices_of, first_cell, first_key}
-use Rattle.pdq_mean.specs.Loops.{lists_of}
+use Rattle.pdq_mean.specs.Groups.{first_cell, first_key}
 use Rattle.pdq_mean.proofs.Kept.{get_or-mapped}
 
 both_hold : (a b : Bool) → (a && b) ≡ true → (a ≡ true) × (b ≡ true)
@@ -48,7 +43,7 @@ module _ {X : Type 0} (p : X → Bool) where
   is_found : (xs : List X) (k : ℕ) (x : X) → k < length xs → get_or xs k x ≡ x → p x ≡ true → position p xs ≡ Some (position_or_len p xs)
   is_found xs k x below is e = ap (λ b. cond b (Some (position_or_len p xs)) None) (lt-ltb (position_or_len p xs) (length xs) (lt_of_le_of_lt (first_before xs k x below is e) below))
 
-get_or-any : {X : Type 0} (xs : List X) (i : ℕ) (d e : X) → i < length xs → get_or xs i d ≡ get_or xs i e
+pub get_or-any : {X : Type 0} (xs : List X) (i : ℕ) (d e : X) → i < length xs → get_or xs i d ≡ get_or xs i e
 get_or-any [] i d e below = absurd (omega arith)
 get_or-any (x ∷ xs) zero d e below = refl
 get_or-any (x ∷ xs) (suc i) d e below = get_or-any xs i d e (omega arith)
@@ -63,7 +58,3 @@ pub item_of_group-plain : (q : QueryView) (cs : List Choice) (a : At) → Contai
 unfolding item_of_group
 item_of_group-plain q [] a has = refl
 item_of_group-plain q (c ∷ cs) a has = plain_at c q.groups a has (position (is_column a) q.groups) refl
-
-pub item_of_group-count : (tables : List TableView) (q : QueryView) (key : List Cell) (run : List (Vec ℕ)) → item_of_group q key (choices_of tables q run) Count ≡ Number (pos (length run)) 0
-unfolding item_of_group
-item_of_group-count tables q key run = ap (λ n. Number (pos n) 0) (length-map (lists_of run) _ ∙ length-map run _)

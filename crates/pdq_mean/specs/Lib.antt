@@ -2,3 +2,7 @@ pub mod CellRefs
 pub mod Loops
 pub mod Groups
 pub mod Rows
+pub mod Tallies
+pub mod Grouping
+pub mod Leads
+pub mod Places

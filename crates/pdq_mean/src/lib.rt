@@ -5,7 +5,11 @@ mod cell_ref;
 mod choices;
 mod conditions;
 mod evaluation;
+mod group_columns;
 mod groups;
+mod key_numbers;
+mod leads;
 mod rows;
+mod tallies;
 
 pub use evaluation::{SerialFault, serial};

@@ -1,13 +1,18 @@
 //! The rows of an answer in order.
-ghost use Rattle.std.specs.Prelude.{◌≡◌, List, map};
+ghost use Rattle.std.specs.Prelude.{◌≡◌, All, IfOk, List, OnOk, map};
 ghost use Rattle.std.specs.List.Sorted.{IsPermutation, IsSorted};
 ghost use Rattle.pdq_query.specs.Answer.{answer_cmp, key_cmp};
+ghost use Rattle.pdq_mean.specs.Leads.{IsLedRow, first_cmp, first_key, led_row_cmp};
 ghost use Rattle.pdq_mean.specs.Rows.{vector_cmp};
 
 use crate::cell_ref::{cell_at, compare_refs};
+use crate::leads::{Lead, Led, compare_leads, items, lead_of};
+use pdq_base::Memory;
 use pdq_query::Key;
 use pdq_value::{Cell, compare_rows};
+use std::alloc::Global;
 use std::cmp::Ordering;
+use std::mem::replace;
 
 /// By one order key.
 fn compare_at(key: Key, a: &[Cell], b: &[Cell]) -> Ordering
@@ -35,10 +40,87 @@ fn compare_answers(keys: &[Key], a: &[Cell], b: &[Cell]) -> Ordering
     compare_rows(a, b)
 }
 
-/// The rows by the order keys, and then by the whole row.
-pub fn sort_rows(keys: &[Key], rows: &mut Vec<Vec<Cell>>)
-    ensures permutation { IsPermutation rows.old.items rows.new.items }
-    ensures sorted { IsSorted (vector_cmp keys.now) rows.new.items }
+/// The key that rows are compared by first; where there is none, their first cells ascending.
+fn first_key(keys: &[Key]) -> Key
+    ensures value { result ≡ first_key keys.now }
 {
-    rows.sort_unstable_by(|a, b| compare_answers(keys, a, b));
+    match keys.first() {
+        Some(key) => *key,
+        None => Key {
+            item: 0,
+            down: false,
+        },
+    }
+}
+
+fn led_row(keys: &[Key], row: Vec<Cell>) -> Led<Vec<Cell>>
+    ensures item { result.item ≡ row }
+    ensures lead { IsLedRow keys.now result }
+{
+    let lead = lead_of(cell_at(&row, first_key(keys).item as usize));
+    Led { lead, item: row }
+}
+
+/// The rows, each with the lead of its cell at the first key.
+fn led_rows(
+    alloc: Global,
+    keys: &[Key],
+    rows: Vec<Vec<Cell>>,
+) -> Result<Vec<Led<Vec<Cell>>>, Memory>
+    ensures items { IfOk result (λ led. map (λ l. l.item) led.items ≡ rows.items) }
+    ensures leads { IfOk result (λ led. All (IsLedRow keys.now) led.items) }
+{
+    let Ok(mut led) = Vec::with_capacity(alloc, rows.len()) else {
+        return Err(Memory);
+    };
+    for row in rows {
+        if led.push(led_row(keys, row)).is_err() {
+            return Err(Memory);
+        }
+    }
+    Ok(led)
+}
+
+/// By leads, the greater first where the first key is descending.
+fn compare_first(keys: &[Key], a: &Lead, b: &Lead) -> Ordering
+    ensures order { result ≡ first_cmp keys.now a.now b.now }
+{
+    if first_key(keys).down {
+        compare_leads(b, a)
+    } else {
+        compare_leads(a, b)
+    }
+}
+
+#[tactic(auto, unfolding(crate::specs::Leads::led_row_cmp, crate::specs::Rows::vector_cmp))]
+fn compare_led_rows(keys: &[Key], a: &Led<Vec<Cell>>, b: &Led<Vec<Cell>>) -> Ordering
+    ensures order { result ≡ led_row_cmp keys.now a.now b.now }
+{
+    let order = compare_first(keys, &a.lead, &b.lead);
+    if order.is_ne() {
+        return order;
+    }
+    compare_answers(keys, &a.item, &b.item)
+}
+
+fn sort_led_rows(keys: &[Key], rows: &mut Vec<Led<Vec<Cell>>>)
+    ensures permutation { IsPermutation rows.old.items rows.new.items }
+    ensures sorted { IsSorted (led_row_cmp keys.now) rows.new.items }
+{
+    rows.sort_unstable_by(|a, b| compare_led_rows(keys, a, b));
+}
+
+/// The rows by the order keys, and then by the whole row.
+///
+/// # Errors
+/// `Memory` where it is wanting.
+pub fn sort_rows(alloc: Global, keys: &[Key], rows: &mut Vec<Vec<Cell>>) -> Result<(), Memory>
+    ensures permutation { OnOk result (IsPermutation rows.old.items rows.new.items) }
+    ensures sorted { OnOk result (IsSorted (vector_cmp keys.now) rows.new.items) }
+{
+    let unsorted = replace(rows, Vec::new(alloc));
+    let mut led = led_rows(alloc, keys, unsorted)?;
+    sort_led_rows(keys, &mut led);
+    *rows = items(alloc, led)?;
+    Ok(())
 }

@@ -1,13 +1,19 @@
-use Rattle.std.proofs.Common.{◌≡◌, ap, is_lt, rules}
-use Rattle.std.proofs.lemmas.Fn.{always_returns_same}
-use Rattle.std.proofs.lemmas.List.MinMax.{ranks_by}
+use Rattle.std.proofs.Common.{◌∙◌, ap, IsSorted, subst, sym}
+use Rattle.std.specs.Global.{Vec}
+use Rattle.pdq_value.specs.declared.cells.Cell.{Cell}
+use Rattle.std.proofs.lemmas.List.Sorted.{All-permutation}
+use Rattle.pdq_mean.specs.Leads.{IsLedRow}
 use Rattle.pdq_mean.specs.Rows.{vector_cmp}
-use Rattle.pdq_mean.proofs.Sorts.{vector_cmp-IsTotalOrder}
+use Rattle.pdq_mean.proofs.LeadOrders.{items_moved, rows_sorted}
 use Rattle.pdq_mean.proofs.rows.sort_rows.Goals as goal
 
+pub returns-clause-permutation : goal.returns-clause-permutation
+returns-clause-permutation c =
+    items_moved c.in_ok-led.led.items c.sort_led_rows.new.rows.items c.args.rows.now.items c.in_ok-rows.field-0.items
+    (c.in_ok-led.ensures.items ∙ ap (λ (v : Vec (Vec Cell)). v.items) c.replace-unsorted.ensures.value) c.sort_led_rows.ensures.permutation c.in_ok-rows.ensures.items
+
 pub returns-clause-sorted : goal.returns-clause-sorted
-unfolding vector_cmp
 returns-clause-sorted c =
     let keys = c.args.keys.now in
-    c.sort_unstable_by.ensures.sorted (λ x y. is_lt (vector_cmp keys x y)) (ranks_by (vector_cmp-IsTotalOrder keys) (λ x. x))
-    (always_returns_same _ _ _ (λ a r f' k. (let e : r ≡ vector_cmp keys a.0.now a.1.0.now = search rules in ap is_lt e, search rules)))
+    let led = All-permutation (IsLedRow keys) c.in_ok-led.led.items c.sort_led_rows.new.rows.items c.sort_led_rows.ensures.permutation c.in_ok-led.ensures.leads in
+    subst (IsSorted (vector_cmp keys)) (sym c.in_ok-rows.ensures.items) (rows_sorted keys c.sort_led_rows.new.rows.items led c.sort_led_rows.ensures.sorted)
