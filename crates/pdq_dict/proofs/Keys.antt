@@ -1,12 +1,17 @@
 -- Texts held as the keys of a set: f gives the text of a key.
-use Rattle.std.proofs.Common.{◌≡◌, ℕ, zero, suc, ◌+◌, ◌<◌, ◌≤◌, Bool, true, false, cond, not, ◌||◌, List, [], ◌∷◌, ◌++◌, length, get_or, map, refl, sym, ap, ap₂, ◌∙◌, subst, arith, nat_eq, nat_lt, nat_cmp, Some, None, IsSorted, if◌then◌else◌, count_by}
+use Rattle.std.proofs.Common.{◌≡◌, ℕ, zero, suc, ◌+◌, ◌<◌, ◌≤◌, Bool, true, false, cond, not, ◌||◌, List, [], ◌∷◌, ◌++◌, length, get_or, map, refl, sym, ap, ap₂, ◌∙◌, subst, arith, nat_eq, nat_lt, nat_cmp, Option, Some, None, is_some, true≢false, IsSorted, if◌then◌else◌, count_by, slice_get}
 use Rattle.std.specs.Cmp.Lexicographic.{pointwise, slice_cmp, texts_ties}
 use Rattle.std.specs.List.{IsDistinct, list_any, position, prefix_len}
 use Rattle.std.specs.List.Sorted.{IsPartitionPoint, IsPartitionedBy}
+use Rattle.std.specs.Global.{Vec}
+use Rattle.std.specs.Map.{keys_of, lookup}
+use Rattle.std.specs.Option.{option_map}
 use Rattle.std.specs.Ordering.{is_lt}
+use Rattle.std.specs.Vec.{vec_items}
 use Rattle.std.specs.declared.cmp.Ordering.TheVariants.{Less}
 use Rattle.std.proofs.lemmas.List.{get_or-map, length-map, map-append}
 use Rattle.std.proofs.lemmas.List.Sums.{sum_by-cons}
+use Rattle.std.proofs.lemmas.Map.Made.{is_some-lookup}
 use Rattle.std.proofs.lemmas.Map.Keys.{apart_from_distinct, sorted_from_all_adjacent}
 use Rattle.pdq_dict.specs.Texts.{is_text, noted, text_cmp}
 use Rattle.pdq_dict.proofs.TextOrder.{text_cmp-IsLinearOrder}
@@ -53,6 +58,23 @@ module _ {K : Type 0} (f : K → List ℕ) where
       let a : get_or (map f ks) i [] ≡ f (get_or ks i d) = get_or-map f ks i d [] (omega arith) in
       let b : get_or (map f ks) j [] ≡ f (get_or ks j d) = get_or-map f ks j d [] q in
       subst (λ u. is_lt (text_cmp u t) ≡ true) a (rising-IsPartitionedBy (map f ks) t h i j [] p (omega (arith, q, length-map ks f)) (subst (λ u. is_lt (text_cmp u t) ≡ true) (sym b) e))
+
+-- the texts of entries are those of their keys
+pub texts_of_keys : (es : List (Vec ℕ × ℕ)) → map (λ (e : Vec ℕ × ℕ). vec_items e.0) es ≡ map vec_items (keys_of es)
+texts_of_keys [] = refl
+texts_of_keys (e ∷ es) = ap (λ l. vec_items e.0 ∷ l) (texts_of_keys es)
+
+pub any-entries : (t : List ℕ) (es : List (Vec ℕ × ℕ)) → is_some (lookup (λ k. pointwise nat_eq t (vec_items k)) es) ≡ has (map vec_items (keys_of es)) t
+any-entries t es = is_some-lookup (λ k. pointwise nat_eq t (vec_items k)) es ∙ any-keys vec_items t (keys_of es)
+
+pub text_at : (es : List (Vec ℕ × ℕ)) (i : ℕ) (e : Vec ℕ × ℕ) → slice_get es i ≡ Some e → slice_get (map vec_items (keys_of es)) i ≡ Some (vec_items e.0)
+text_at [] i e h = absurd (true≢false (sym (ap is_some h)))
+text_at (d ∷ es) zero e h = ap (option_map (λ (x : Vec ℕ × ℕ). vec_items x.0)) h
+text_at (d ∷ es) (suc i) e h = text_at es i e h
+
+pub none_of : {X : Type 0} (o : Option X) → is_some o ≡ false → o ≡ None
+none_of None e = refl
+none_of (Some x) e = absurd (true≢false e)
 
 -- where none passes, none is counted
 pub count_by-none : {X : Type 0} (p : X → Bool) (xs : List X) → ((k : ℕ) (d : X) → k < length xs → p (get_or xs k d) ≡ false) → count_by p xs ≡ 0

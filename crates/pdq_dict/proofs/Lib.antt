@@ -1,4 +1,5 @@
 pub mod TextOrder
+pub mod LedTexts
 pub mod Noting
 pub mod Rising
 pub mod Keys

@@ -1,5 +1,5 @@
 -- Texts noted one by one: which are there, and how many.
-use Rattle.std.proofs.Common.{◌≡◌, map, ℕ, ◌+◌, ◌<◌, ◌≤◌, get_or, take, Bool, true, false, ◌||◌, List, [], ◌∷◌, ◌++◌, length, refl, sym, ap, ◌∙◌, subst, arith, fold, sum_by, length-append}
+use Rattle.std.proofs.Common.{◌≡◌, map, ℕ, ◌+◌, ◌<◌, ◌≤◌, get_or, take, Bool, true, false, cond, ◌||◌, List, [], ◌∷◌, ◌++◌, length, refl, sym, ap, ◌∙◌, subst, arith, fold, sum_by, length-append}
 use Rattle.std.specs.List.{flat_map, list_any}
 use Rattle.std.proofs.lemmas.Bool.{cond_both, cond-true}
 use Rattle.std.proofs.lemmas.List.Folds.{flat_map-map, list_any-append}
@@ -29,6 +29,11 @@ already false xs u t e h = sym (or_false (has xs t))
 pub noted-there : (xs : List (List ℕ)) (u : List ℕ) → has xs u ≡ true → noted xs u ≡ xs
 unfolding noted
 noted-there xs u h = cond-true (has xs u) xs (xs ++ u ∷ []) h
+
+-- a new one goes last
+pub noted-new : (xs : List (List ℕ)) (u : List ℕ) → has xs u ≡ false → noted xs u ≡ xs ++ u ∷ []
+unfolding noted
+noted-new xs u h = ap (λ b. cond b xs (xs ++ u ∷ [])) h
 
 has-noted : (xs : List (List ℕ)) (u t : List ℕ) → has (noted xs u) t ≡ (has xs t || is_text t u)
 unfolding noted

@@ -1,26 +1,43 @@
 //! Sets of texts, each text once and with a place.
 ghost use Rattle.std.specs.Prelude.{◌≡◌, ◌<◌, ◌↔◌, [], IfOk, IfSome, IsPermutation, IsSome, OnOk, count_by, length, option_copied, position, slice_get};
 ghost use Rattle.std.specs.List.Sorted.{IsStrictlySortedBy};
-ghost use Rattle.std.specs.Ordering.{is_lt};
+ghost use Rattle.std.specs.Ordering.{is_lt, nat_cmp, ordering_then};
 ghost use Rattle.pdq_dict.specs.Texts.{is_text, noted, text_cmp};
 
-use indexmap::IndexSet;
+use indexmap::IndexMap;
 use pdq_base::Memory;
+use pdq_value::text_lead;
 use std::alloc::Global;
+use std::cmp::Ordering;
 use std::marker::Model;
 
-/// A set of texts, seen as the list of them in the order of their places.
+/// A set of texts, seen as the list of them in the order of their places. Beside each stands its lead, by which it is compared first.
 #[derive(Debug, Drop)]
 pub struct TextSet {
-    texts: IndexSet<Vec<u8>>,
+    leads: IndexMap<Vec<u8>, u128>,
 }
 
 impl Model for TextSet {
-    ghost use Rattle.std.specs.Prelude.{List, ℕ, map};
+    ghost use Rattle.std.specs.Prelude.{All, List, ℕ, map};
+    ghost use Rattle.indexmap.specs.IndexMap.{keys};
+    ghost use Rattle.pdq_dict.specs.Texts.{IsLedText};
 
     ghost Value = { List (List ℕ) };
 
-    ghost view = { λ s. map (λ t. t.items) s.texts.keys };
+    ghost view = { λ s. map (λ t. t.items) (keys s.leads) };
+
+    ghost invariant = { λ s. All IsLedText s.leads.entries };
+}
+
+/// By leads, and by bytes where those tie.
+fn compare_led(a: &Vec<u8>, a_lead: u128, b: &Vec<u8>, b_lead: u128) -> Ordering
+    ensures order { result ≡ ordering_then (nat_cmp a_lead b_lead) (text_cmp a.now.items b.now.items) }
+{
+    let order = a_lead.cmp(&b_lead);
+    if order.is_ne() {
+        return order;
+    }
+    a.cmp(b)
 }
 
 impl TextSet {
@@ -29,7 +46,7 @@ impl TextSet {
         ensures empty { result ≡ [] }
     {
         TextSet {
-            texts: IndexSet::new(alloc),
+            leads: IndexMap::new(alloc),
         }
     }
 
@@ -40,13 +57,13 @@ impl TextSet {
     pub fn note(&mut self, alloc: Global, text: &[u8]) -> Result<(), Memory>
         ensures noted { OnOk result (self.new ≡ noted self.old text.now) }
     {
-        if self.texts.contains(text) {
+        if self.leads.contains_key(text) {
             return Ok(());
         }
         let Ok(copy) = Vec::from_slice(alloc, text) else {
             return Err(Memory);
         };
-        let Ok(_) = self.texts.insert(copy) else {
+        let Ok(_) = self.leads.insert(copy, text_lead(text)) else {
             return Err(Memory);
         };
         Ok(())
@@ -60,7 +77,10 @@ impl TextSet {
         ensures rising { OnOk result (IsStrictlySortedBy text_cmp self.new) }
         ensures same { IsPermutation self.old self.new }
     {
-        let Ok(()) = self.texts.sort_unstable() else {
+        let Ok(()) = self
+            .leads
+            .sort_unstable_by(|a, a_lead, b, b_lead| compare_led(a, *a_lead, b, *b_lead))
+        else {
             return Err(Memory);
         };
         Ok(())
@@ -70,7 +90,7 @@ impl TextSet {
     pub fn position(&self, text: &[u8]) -> Option<usize>
         ensures position { result ≡ position (is_text text.now) self.now }
     {
-        self.texts.get_index_of(text)
+        self.leads.get_index_of(text)
     }
 
     /// How many texts are less, where the texts are in order.
@@ -78,8 +98,8 @@ impl TextSet {
         requires rising { IsStrictlySortedBy text_cmp self.now }
         ensures count { result ≡ count_by (λ t. is_lt (text_cmp t text.now)) self.now }
     {
-        self.texts.partition_point(
-            |t: &Vec<u8>| -> bool
+        self.leads.partition_point(
+            |t: &Vec<u8>, _: &u128| -> bool
                 ensures { result ≡ is_lt (text_cmp t.now.items text.entry.now) }
             { t.as_slice().cmp(&text).is_lt() },
         )
@@ -90,6 +110,9 @@ impl TextSet {
         requires there { place < length self.now }
         ensures text { slice_get self.now place ≡ Some result.now }
     {
-        &self.texts.as_slice()[place]
+        match self.leads.get_index(place) {
+            Some((text, _)) => text,
+            None => &[],
+        }
     }
 }

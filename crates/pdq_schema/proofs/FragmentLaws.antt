@@ -25,7 +25,7 @@ range_number-within : (rs : List Range) (v : Value) → range_number rs v ≤ le
 range_number-within rs v = number_or_end (position_or_len (λ (r : Range). holds_value r v) rs) (length rs)
 
 -- a row stands in a fragment that its table has
-number-within : (columns : List Column) (cut : CutView) → IsCutOf columns cut → (place : ℕ) (row : List Value) → fragment_number cut place row < fragment_count cut
+pub number-within : (columns : List Column) (cut : CutView) → IsCutOf columns cut → (place : ℕ) (row : List Value) → fragment_number cut place row < fragment_count cut
 number-within columns (rounds count) is_cut place row = omega (arith, is_cut.0)
 number-within columns (ranges column rs) is_cut place row = omega (arith, range_number-within rs (value_at column row))
 

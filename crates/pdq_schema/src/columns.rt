@@ -9,8 +9,8 @@ ghost use Rattle.pdq_schema.specs.SchemaTree.{views_of};
 
 use crate::faults::{SchemaFault, SchemaWhy, fault};
 use crate::keys::{Part, has_only_keys};
-use crate::tree::{is_text, member, text_at};
-use pdq_base::Memory;
+use crate::tree::{member, text_at};
+use pdq_base::{Memory, is_text};
 use pdq_value::{Column, Kind, Name, is_name};
 use std::alloc::Global;
 use toml::{Table, Value};

@@ -7,7 +7,7 @@ ghost use Rattle.toml.specs.View.{table_view};
 ghost use Rattle.pdq_schema.specs.SchemaFile.{is_key_of};
 ghost use Rattle.pdq_schema.specs.SchemaTree.{only_keys};
 
-use crate::tree::is_text;
+use pdq_base::is_text;
 use toml::Table;
 
 /// What has keys: the file, a table, a column, a range.

@@ -2,6 +2,7 @@
 #![tactic(auto)]
 
 mod columns;
+mod copying;
 mod cuts;
 mod cutting;
 mod entries;
@@ -14,6 +15,7 @@ mod schema;
 mod tests;
 mod tree;
 
+pub use copying::copy_shape;
 pub use cuts::{Cut, Range};
 pub use faults::{SchemaFault, SchemaWhy};
 pub use reading::read_schema;

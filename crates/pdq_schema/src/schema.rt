@@ -4,9 +4,11 @@ ghost use Rattle.pdq_value.specs.Tables.{shape_of};
 ghost use Rattle.pdq_schema.specs.Fragments.{fragment_count};
 ghost use Rattle.pdq_schema.specs.Schemas.{IsSchema, cut_of, schema_with};
 
+use crate::copying::{copy_cuts, copy_files, copy_shapes};
 use crate::cuts::Cut;
 use pdq_base::Memory;
 use pdq_value::TableShape;
+use std::alloc::Global;
 use std::marker::Model;
 
 /// One to sixteen tables: their shapes, the names of their files, and how their rows are cut into fragments.
@@ -38,6 +40,20 @@ impl Schema {
             shapes,
             files,
             cuts,
+        })
+    }
+
+    /// The same schema once more.
+    ///
+    /// # Errors
+    /// `Memory` where it is wanting.
+    pub fn copy(&self, alloc: Global) -> Result<Schema, Memory>
+        ensures value { IfOk result (λ s. s ≡ self.now) }
+    {
+        Ok(Schema {
+            shapes: copy_shapes(alloc, &self.shapes)?,
+            files: copy_files(alloc, &self.files)?,
+            cuts: copy_cuts(alloc, &self.cuts)?,
         })
     }
 

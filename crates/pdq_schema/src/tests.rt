@@ -385,6 +385,7 @@ kind = 'text'
 fn schemas_are_read(rt: HostRuntime) -> Result<(), Fail> {
     let alloc = rt.alloc();
     let schema = read_schema(alloc, SHOPS.as_bytes()).map_err(|_| "refused")?;
+    let schema = schema.copy(alloc).map_err(|_| "memory")?;
     let [sales, shops] = schema.shapes() else {
         return Err("tables".into());
     };

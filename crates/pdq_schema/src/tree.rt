@@ -1,6 +1,5 @@
 //! What stands at the keys of a TOML table.
 ghost use Rattle.std.specs.Prelude.{◌≡◌, IfOk, option_map};
-ghost use Rattle.std.specs.Str.{bytes_eq};
 ghost use Rattle.toml.specs.Data.{get_member};
 ghost use Rattle.toml.specs.View.{items_view, table_view, view};
 ghost use Rattle.pdq_schema.specs.SchemaTree.{tables_at, tables_of, text_at, tree_of, views_of};
@@ -8,13 +7,6 @@ ghost use Rattle.pdq_schema.specs.SchemaTree.{tables_at, tables_of, text_at, tre
 use pdq_base::Memory;
 use std::alloc::Global;
 use toml::{Table, Value};
-
-/// Whether the bytes are these.
-pub(crate) fn is_text(bytes: &[u8], text: &[u8]) -> bool
-    ensures value { result ≡ bytes_eq bytes.now text.now }
-{
-    bytes == text
-}
 
 /// The tree of the bytes, if they are TOML.
 pub(crate) fn read_tree(alloc: Global, bytes: &[u8]) -> Result<Option<Table>, Memory>
