@@ -1,0 +1,11 @@
+use Rattle.std.proofs.lemmas.List.Elements.{All-same}
+use Rattle.pdq_table.specs.Layout.{HoldsRows}
+use Rattle.pdq_table.proofs.Stores.{rows_held}
+use Rattle.pdq_table.proofs.storing.Stored.to_db.Goals as goal
+
+pub copy_tables-requires : goal.copy_tables-requires
+copy_tables-requires c =
+    record {
+      spots = All-same HoldsRows c.deref.result.now c.self.inside.tables.items c.deref.ensures.value (rows_held c.self.inside.schema.cuts
+          c.self.inside.tables.items c.self.invariant.cuts);
+    }

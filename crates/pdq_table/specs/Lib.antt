@@ -1,0 +1,5 @@
+pub mod Laws
+pub mod Layout
+pub mod Loading
+pub mod Records
+pub mod Storing

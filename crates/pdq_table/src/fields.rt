@@ -1,0 +1,161 @@
+//! The values that the fields of a record say.
+ghost use Rattle.std.specs.Prelude.{◌≡◌, ◌+◌, ◌∷◌, ◌≤◌, [], All, IfErr, IfOk, MatchOption, Ok, drop, length};
+ghost use Rattle.csv.specs.Records.{fields_of};
+ghost use Rattle.pdq_dict.specs.Dictionary.{cell_limit};
+ghost use Rattle.pdq_value.specs.declared.shapes.Column.{Column};
+ghost use Rattle.pdq_value.specs.PlainTable.{most_rows, not_utf8_at};
+ghost use Rattle.pdq_value.specs.Tables.{IsKind};
+ghost use Rattle.pdq_table.specs.Loading.{Refuses, fields_fault, most_bytes, row_of, value_of, values_of};
+ghost use Rattle.pdq_table.specs.Records.{AreShort};
+
+use csv::ByteRecord;
+use pdq_base::is_utf8;
+use pdq_value::{Column, Kind, LoadFault, LoadWhy, Row, Text, Value, read_number};
+use std::alloc::Global;
+
+/// The most rows of a table.
+pub(crate) const MOST_ROWS: u32 = 2_000_000;
+
+/// The most cells of all tables.
+const MOST_CELLS: u64 = 32_000_000;
+
+/// A fault of this table, in this row and column.
+pub(crate) fn fault(why: LoadWhy, table: u32, row_no: u32, column: u32) -> LoadFault
+    ensures value { result ≡ LoadFault.Wrong why table row_no column }
+{
+    LoadFault::Wrong {
+        why,
+        table,
+        row_no,
+        column,
+    }
+}
+
+/// The field at this place, where there is one.
+pub(crate) fn field_at(row: &ByteRecord, place: usize) -> Option<&[u8]>
+    requires short { AreShort (fields_of row.now) }
+    ensures value { MatchOption result (drop place (fields_of row.now) ≡ []) (λ field. drop place (fields_of row.now) ≡ field.now ∷ drop (place + 1) (fields_of row.now)) }
+    ensures short { MatchOption result (length (fields_of row.now) ≤ place) (λ field. (length field.now ≤ most_bytes) × (place ≤ most_bytes)) }
+{
+    row.get(place)
+}
+
+/// The first column whose field is not UTF-8.
+fn first_not_utf8(row: &ByteRecord) -> Option<u32>
+    requires short { AreShort (fields_of row.now) }
+    ensures value { result ≡ not_utf8_at 1 (fields_of row.now) }
+{
+    for place in 0..row.len() {
+        let Some(field) = field_at(row, place) else {
+            return None;
+        };
+        if !is_utf8(field) {
+            return Some(place as u32 + 1);
+        }
+    }
+    None
+}
+
+/// What is wrong with a record whose fields are not texts, or not as many as the columns.
+pub(crate) fn fields_fault(
+    columns: &[Column],
+    table: u32,
+    row_no: u32,
+    row: &ByteRecord,
+) -> Option<LoadFault>
+    requires short { AreShort (fields_of row.now) }
+    ensures value { result ≡ fields_fault columns.now (record { table = table; row = row_no }) (fields_of row.now) (not_utf8_at 1 (fields_of row.now)) }
+{
+    if let Some(column) = first_not_utf8(row) {
+        return Some(fault(LoadWhy::NotUtf8, table, row_no, column));
+    }
+    if row.len() == columns.len() {
+        None
+    } else {
+        Some(fault(LoadWhy::WrongFields, table, row_no, 0))
+    }
+}
+
+/// The value of a field in a column of this kind.
+fn read_value(
+    alloc: Global,
+    kind: Kind,
+    table: u32,
+    row_no: u32,
+    column: u32,
+    field: &[u8],
+) -> Result<Value, LoadFault>
+    requires kind { IsKind kind }
+    requires short { length field.now ≤ most_bytes }
+    ensures read { IfOk result (λ v. value_of kind (record { table = table; row = row_no }) column field.now ≡ Ok v) }
+    ensures refused { IfErr result (Refuses (value_of kind (record { table = table; row = row_no }) column field.now)) }
+{
+    match kind {
+        Kind::Words => match Text::from_bytes(alloc, field) {
+            Ok(text) => Ok(Value::Words(text)),
+            Err(_) => Err(LoadFault::Memory),
+        },
+        Kind::Number { scale } => match read_number(field, scale) {
+            Ok(number) => Ok(Value::Number(number)),
+            Err(_) => Err(fault(LoadWhy::BadNumber, table, row_no, column)),
+        },
+    }
+}
+
+/// The values of a record, column by column.
+fn read_values(
+    alloc: Global,
+    columns: &[Column],
+    table: u32,
+    row_no: u32,
+    row: &ByteRecord,
+) -> Result<Vec<Value>, LoadFault>
+    requires kinds { All (λ (c : Column). IsKind c.kind) columns.now }
+    requires short { AreShort (fields_of row.now) }
+    ensures read { IfOk result (λ v. values_of columns.now (record { table = table; row = row_no }) 1 (fields_of row.now) ≡ Ok v.items) }
+    ensures refused { IfErr result (Refuses (values_of columns.now (record { table = table; row = row_no }) 1 (fields_of row.now))) }
+{
+    let Ok(mut values) = Vec::with_capacity(alloc, columns.len()) else {
+        return Err(LoadFault::Memory);
+    };
+    for (place, column) in columns.iter().enumerate() {
+        let Some(field) = field_at(row, place) else {
+            return Ok(values);
+        };
+        let value = read_value(alloc, column.kind, table, row_no, place as u32 + 1, field)?;
+        let Ok(()) = values.push(value) else {
+            return Err(LoadFault::Memory);
+        };
+    }
+    Ok(values)
+}
+
+/// The row that a record says, where all tables have so many cells before it.
+#[tactic(auto, unfolding(crate::specs::Loading::row_of))]
+pub(crate) fn read_row(
+    alloc: Global,
+    columns: &[Column],
+    table: u32,
+    row_no: u32,
+    cells: u64,
+    row: &ByteRecord,
+) -> Result<Row, LoadFault>
+    requires kinds { All (λ (c : Column). IsKind c.kind) columns.now }
+    requires few { length columns.now ≤ 16 }
+    requires cells { cells ≤ cell_limit }
+    requires short { AreShort (fields_of row.now) }
+    ensures read { IfOk result (λ r. row_of columns.now (record { table = table; row = row_no }) cells (fields_of row.now) ≡ Ok r) }
+    ensures refused { IfErr result (Refuses (row_of columns.now (record { table = table; row = row_no }) cells (fields_of row.now))) }
+    ensures room { IfOk result (λ r. (row_no ≤ most_rows) × (cells + length columns.now ≤ cell_limit)) }
+{
+    if row_no > MOST_ROWS {
+        return Err(fault(LoadWhy::TooManyRows, table, row_no, 0));
+    }
+    if cells + columns.len() as u64 > MOST_CELLS {
+        return Err(fault(LoadWhy::TooManyCells, table, row_no, 0));
+    }
+    if let Some(wrong) = fields_fault(columns, table, row_no, row) {
+        return Err(wrong);
+    }
+    Ok(Row::new(read_values(alloc, columns, table, row_no, row)?))
+}
