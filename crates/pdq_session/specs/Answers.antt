@@ -1,4 +1,4 @@
--- The text of an answer, and of what refuses a question or its table. Each line ends with byte 10.
+-- The text of an answer, and of what refuses a question, a table or a schema. Each line ends with byte 10.
 use Rattle.std.specs.Prelude.{ℕ, List, [], ◌∷◌, ◌++◌, Option, None, Some, codes, decimal, flat_map, length}
 use Rattle.pdq_value.specs.declared.cells.Cell.{Cell}
 use Rattle.pdq_value.specs.declared.loading.LoadFault.{LoadFault}
@@ -6,6 +6,10 @@ use Rattle.pdq_value.specs.declared.loading.LoadFault.TheVariants.{Wrong, Memory
 use Rattle.pdq_value.specs.declared.loading.LoadWhy.{LoadWhy}
 use Rattle.pdq_value.specs.declared.loading.LoadWhy.TheVariants as load
 use Rattle.pdq_value.specs.RowText.{row_text}
+use Rattle.pdq_schema.specs.declared.faults.SchemaFault.{SchemaFault}
+use Rattle.pdq_schema.specs.declared.faults.SchemaFault.TheVariants as schema_fault
+use Rattle.pdq_schema.specs.declared.faults.SchemaWhy.{SchemaWhy}
+use Rattle.pdq_schema.specs.declared.faults.SchemaWhy.TheVariants as schema
 use Rattle.pdq_sql.specs.declared.faults.SqlFault.{SqlFault}
 use Rattle.pdq_sql.specs.declared.faults.SqlWhy.{SqlWhy}
 use Rattle.pdq_sql.specs.declared.faults.SqlWhy.TheVariants as sql
@@ -56,6 +60,24 @@ load_place table row column = codes " TABLE " ++ decimal table ++ codes " ROW " 
 abbrev pub refused_table : LoadFault → List ℕ
 refused_table (Wrong why table row column) = codes "FAULT DATA " ++ load_words why ++ load_place table row column
 refused_table Memory = []
+
+abbrev pub schema_words : SchemaWhy → List ℕ
+schema_words schema.NotToml = codes "not toml"
+schema_words schema.UnknownKey = codes "unknown key"
+schema_words schema.MissingKey = codes "missing key"
+schema_words schema.TooMany = codes "too many"
+schema_words schema.BadName = codes "bad name"
+schema_words schema.TwoNames = codes "two names"
+schema_words schema.BadKind = codes "bad kind"
+schema_words schema.BadFragment = codes "bad fragment"
+
+abbrev pub schema_place : ℕ → ℕ → List ℕ
+schema_place table column = codes " TABLE " ++ decimal table ++ codes " COLUMN " ++ decimal column ++ 10 ∷ []
+
+-- a schema file is refused; want of memory has no line
+abbrev pub refused_schema : SchemaFault → List ℕ
+refused_schema (schema_fault.Wrong why table column) = codes "FAULT SCHEMA " ++ schema_words why ++ schema_place table column
+refused_schema schema_fault.Memory = []
 
 -- a row and its line end
 abbrev pub row_line : List Cell → List ℕ

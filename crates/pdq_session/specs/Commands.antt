@@ -1,13 +1,10 @@
 -- What a line of a script says. Words are in any case, and stand apart by blanks, in any number.
 use Rattle.std.specs.Prelude.{ℕ, ◌+◌, ◌-◌, ◌*◌, ◌≤◌, List, Bool, false, not, ◌&&◌, ◌||◌, ◌==◌, nat_lt, nat_le, if◌then◌else◌, Option, Some, None, length, drop, take_while, fold, min, slice_index}
 use Rattle.std.specs.List.{list_all}
+use Rattle.pdq_base.specs.Lines.{is_blank}
 use Rattle.pdq_session.specs.declared.commands.Command.{Command}
 use Rattle.pdq_session.specs.declared.commands.Command.TheVariants as command
 use Rattle.pdq_session.specs.declared.replies.LineFault.TheVariants as fault
-
--- a blank: byte 32 or 9
-abbrev pub is_blank : ℕ → Bool
-is_blank b = b == 32 || b == 9
 
 abbrev pub skip_blanks : List ℕ → List ℕ
 skip_blanks bytes = drop (length (take_while is_blank bytes)) bytes

@@ -1,10 +1,11 @@
-//! The text of an answer, and of what refuses a question or its table.
+//! The text of an answer, and of what refuses a question, a table or a schema.
 ghost use Rattle.std.specs.Prelude.{◌≡◌, ◌≤◌, ◌++◌, All, OnOk, flat_map, map, string_bytes};
 ghost use Rattle.pdq_value.specs.declared.cells.Cell.{Cell as CellValue};
 ghost use Rattle.pdq_value.specs.Cells.{scale_of};
-ghost use Rattle.pdq_session.specs.Answers.{count_line, load_place, load_words, refused_select, refused_table, row_line, rows_text, select_number, select_words, too_many_rows};
+ghost use Rattle.pdq_session.specs.Answers.{count_line, load_place, load_words, refused_schema, refused_select, refused_table, row_line, rows_text, schema_place, schema_words, select_number, select_words, too_many_rows};
 
 use pdq_base::Memory;
+use pdq_schema::{SchemaFault, SchemaWhy};
 use pdq_sql::{SqlFault, SqlWhy};
 use pdq_value::{Cell, LoadFault, LoadWhy, print_row};
 use std::alloc::Global;
@@ -123,6 +124,51 @@ pub fn add_refused_table(alloc: Global, out: &mut Vec<u8>, fault: LoadFault) -> 
             add_load_place(alloc, out, table, row_no, column)
         }
         LoadFault::Memory => Ok(()),
+    }
+}
+
+fn schema_words(why: SchemaWhy) -> &'static str
+    ensures value { result.now ≡ schema_words why }
+{
+    match why {
+        SchemaWhy::NotToml => "not toml",
+        SchemaWhy::UnknownKey => "unknown key",
+        SchemaWhy::MissingKey => "missing key",
+        SchemaWhy::TooMany => "too many",
+        SchemaWhy::BadName => "bad name",
+        SchemaWhy::TwoNames => "two names",
+        SchemaWhy::BadKind => "bad kind",
+        SchemaWhy::BadFragment => "bad fragment",
+    }
+}
+
+fn add_schema_place(alloc: Global, out: &mut Vec<u8>, table: u32, column: u32) -> Result<(), Memory>
+    ensures text { OnOk result (out.new.items ≡ out.old.items ++ schema_place table column) }
+{
+    let Ok(text) = format!(in alloc; " TABLE {table} COLUMN {column}\n") else {
+        return Err(Memory);
+    };
+    add_string(out, text)
+}
+
+/// Adds the line of a schema file that is refused; nothing for want of memory.
+///
+/// # Errors
+/// `Memory` where it is wanting.
+pub fn add_refused_schema(
+    alloc: Global,
+    out: &mut Vec<u8>,
+    fault: SchemaFault,
+) -> Result<(), Memory>
+    ensures text { OnOk result (out.new.items ≡ out.old.items ++ refused_schema fault) }
+{
+    match fault {
+        SchemaFault::Wrong { why, table, column } => {
+            add(out, b"FAULT SCHEMA ")?;
+            add(out, schema_words(why).as_bytes())?;
+            add_schema_place(alloc, out, table, column)
+        }
+        SchemaFault::Memory => Ok(()),
     }
 }
 

@@ -1,9 +1,11 @@
 //! What a line of a script says.
 ghost use Rattle.std.specs.Prelude.{◌≡◌, ◌<◌, ◌≤◌, ◌^◌, true, IfSome, fold, length, take_while};
 ghost use Rattle.std.specs.List.{list_all};
-ghost use Rattle.pdq_session.specs.Commands.{add_digit, after_word, claim_of, done_of, int_of, is_blank, is_claim, is_digit, is_done, is_int, line_of, lower, skip_blanks, trimmed_line, word_of, InLimits};
+ghost use Rattle.pdq_base.specs.Lines.{is_blank};
+ghost use Rattle.pdq_session.specs.Commands.{add_digit, after_word, claim_of, done_of, int_of, is_claim, is_digit, is_done, is_int, line_of, lower, skip_blanks, trimmed_line, word_of, InLimits};
 
 use crate::replies::LineFault;
+use pdq_base::is_blank;
 
 /// What a line says.
 #[derive(Clone, Copy)]
@@ -18,17 +20,11 @@ pub(crate) enum Command {
     Refused(LineFault),
 }
 
-fn blank(b: u8) -> bool
-    ensures value { result ≡ is_blank b }
-{
-    b == b' ' || b == b'\t'
-}
-
 fn blanks(s: &[u8]) -> usize
     ensures value { result ≡ length (take_while is_blank s.now) }
     ensures bound { result ≤ length s.now }
 {
-    s.iter().take_while(|b| blank(**b)).count()
+    s.iter().take_while(|b| is_blank(**b)).count()
 }
 
 fn without_blanks(s: &[u8]) -> &[u8]
@@ -41,7 +37,7 @@ fn word_len(s: &[u8]) -> usize
     ensures value { result ≡ length (word_of s.now) }
     ensures bound { result ≤ length s.now }
 {
-    s.iter().take_while(|b| !blank(**b)).count()
+    s.iter().take_while(|b| !is_blank(**b)).count()
 }
 
 fn word(s: &[u8]) -> &[u8]

@@ -11,6 +11,8 @@ mod scripts;
 #[cfg(test)]
 mod tests;
 
-pub use answers::{add_answer, add_refused_select, add_refused_table, add_too_many_rows};
+pub use answers::{
+    add_answer, add_refused_schema, add_refused_select, add_refused_table, add_too_many_rows,
+};
 pub use script_laws::scripts_keep_rules;
 pub use scripts::{ScriptEnd, script_in};

@@ -4,7 +4,7 @@ ghost use Rattle.pdq_edge.specs.Causes.{HasCause, Rose};
 ghost use Rattle.pdq_base.specs.Lines.{before_end, without_return};
 ghost use Rattle.pdq_session.specs.Reading.{remaining, Does, IsAtEnd, Reads, ReadsMore, decided};
 
-use pdq_base::Memory;
+use pdq_base::{Memory, without_return};
 use pdq_edge::{Failed, Source};
 use std::alloc::Global;
 use std::marker::Model;
@@ -55,19 +55,6 @@ fn decided(given: u32, held: &[u8]) -> Option<LineOutcome>
         Some(LineOutcome::Line)
     } else {
         None
-    }
-}
-
-// What a line says: its bytes without one byte 13 at their end.
-#[tactic(auto, unfolding(pdq_base::specs::Lines::without_return))]
-fn without_return(line: &[u8]) -> &[u8]
-    ensures value { result.now ≡ without_return line.now }
-    ensures bound { length result.now ≤ length line.now }
-{
-    if !line.is_empty() && line[line.len() - 1] == b'\r' {
-        &line[..line.len() - 1]
-    } else {
-        line
     }
 }
 

@@ -1,13 +1,10 @@
 -- The input of a command, piece by piece.
-use Rattle.std.proofs.Common.{◌≡◌, ℕ, ◌+◌, ◌<◌, ◌≤◌, List, [], ◌++◌, length, take, refl, sym, ap, ◌∙◌, subst, arith, Option, Some, None, IsTrue, inl, inr}
-use Rattle.std.specs.Prelude.{◌^◌, ◌-◌, min}
+use Rattle.std.proofs.Common.{◌≡◌, ℕ, ◌≤◌, List, [], ◌++◌, length, take, refl, ap, ◌∙◌, subst, arith, Option, Some, None}
 use Rattle.std.proofs.lemmas.Grind.{common_steps}
 use Rattle.std.proofs.lemmas.List.{append-nil}
 use Rattle.pdq_edge.specs.Bytes.{Gave, Gives, told_count}
-use Rattle.pdq_session.specs.Progress.{SourceView, Came}
 use Rattle.pdq_session.specs.Reading.{Took, remaining}
 use Rattle.pdq_session.proofs.Giving.{remaining_none, took_then}
-use Rattle.pdqd.specs.Input.{GaveSome, IsInput}
 
 gave_from_gives : (b c : Option (List ℕ)) (xs : List ℕ) → Gives b c xs → Gave b c xs
 gave_from_gives None c xs gives = tt

@@ -5,3 +5,5 @@ pub mod Rules
 pub mod Inputs
 pub mod Questions
 pub mod Shapes
+pub mod FilesRead
+pub mod TableQuestions

@@ -1,5 +1,5 @@
 -- From the reply to a question to what a run wrote.
-use Rattle.std.proofs.Common.{◌≡◌, ◌≢◌, ◌∷◌, ℕ, ◌+◌, ◌<◌, ◌≤◌, ◌∙◌, Bool, true, false, List, [], ◌++◌, length, take, drop, Option, Some, None, refl, sym, ap, subst, arith, inl, inr, IsTrue, Result, Ok, Err}
+use Rattle.std.proofs.Common.{◌≡◌, ◌≢◌, ◌∷◌, ℕ, ◌<◌, ◌∙◌, true, List, [], ◌++◌, length, take, drop, Option, Some, None, refl, sym, ap, subst, arith, inl, inr, IsTrue, Result, Ok, Err}
 use Rattle.std.specs.Prelude.{◌⊎◌, nat_lt}
 use Rattle.std.proofs.lemmas.Bool.Decides.{nat_tests}
 use Rattle.std.proofs.lemmas.Grind.{common_steps}
@@ -17,17 +17,21 @@ use Rattle.pdq_sql.specs.declared.faults.SqlFault.{SqlFault}
 use Rattle.pdq_sql.specs.Asts.{AstView}
 use Rattle.pdq_sql.specs.Reading.{select_reading}
 use Rattle.pdq_sql.specs.Resolution.{resolution_of}
-use Rattle.pdq_session.specs.Progress.{SourceView, CanFollow, Begins}
+use Rattle.pdq_session.specs.Progress.{SourceView, CanFollow}
 use Rattle.pdq_session.specs.Reading.{remaining}
-use Rattle.pdqd.specs.Ask.{answer_over, answer_to_query, answer_to_select, ask_output, shapes_of, shown_answer}
+use Rattle.pdqd.specs.Ask.{answer_over, answer_over_tables, answer_to_query, answer_to_select, ask_output, shapes_of, shown_answer}
+use Rattle.pdqd.specs.Files.{Contents}
 use Rattle.pdqd.specs.Input.{GaveSome, IsInput}
 use Rattle.pdqd.specs.Output.{Output}
 use Rattle.pdqd.specs.declared.words.Form.TheVariants.{Ask}
 use Rattle.pdqd.specs.Run.{IsWhole, IsCutOff, WroteAll, WrotePart}
+use Rattle.pdqd.proofs.Statuses.{no_files}
 
 -- nothing was written
-pub wrote_nothing : (select : List ℕ) (faults : ℕ) (before now : SourceView) (w : Option (List ℕ)) → GaveSome before now → WrotePart (Ask select) before now w w faults
-wrote_nothing select faults before now w gave = record {
+pub wrote_nothing : (select : List ℕ) (contents : Contents) (faults : ℕ) (before now : SourceView) (w : Option (List ℕ)) → GaveSome before now → WrotePart (Ask select) contents before now w w faults
+wrote_nothing select contents faults before now w gave = record {
+  files = no_files;
+  given = tt;
   bytes = gave.bytes;
   text = [];
   failed = [];
@@ -62,8 +66,10 @@ same_output : (select : List ℕ) (before now : SourceView) (bytes more : List �
 same_output select before now bytes more input can = by_end select before now bytes more input.ends can
 
 -- a reply that was written whole
-pub wrote_reply : (select : List ℕ) (faults status : ℕ) (before now : SourceView) (w v : Option (List ℕ)) (bytes text : List ℕ) → IsInput before now bytes → record { text = text; status = status } ≡ ask_output select bytes → Grows w v text → WroteAll (Ask select) before now w v faults status
-wrote_reply select faults status before now w v bytes text input is grew = record {
+pub wrote_reply : (select : List ℕ) (contents : Contents) (faults status : ℕ) (before now : SourceView) (w v : Option (List ℕ)) (bytes text : List ℕ) → IsInput before now bytes → record { text = text; status = status } ≡ ask_output select bytes → Grows w v text → WroteAll (Ask select) contents before now w v faults status
+wrote_reply select contents faults status before now w v bytes text input is grew = record {
+  files = no_files;
+  given = tt;
   bytes = bytes;
   text = text;
   failed = [];
@@ -73,12 +79,14 @@ wrote_reply select faults status before now w v bytes text input is grew = recor
   whole = λ more can. same_output select before now bytes more input can ∙ sym is;
 }
 
-two_parts : (n : ℕ) (text : List ℕ) → text ≡ take n text ++ drop n text
+pub two_parts : (n : ℕ) (text : List ℕ) → text ≡ take n text ++ drop n text
 two_parts n text = grind (arith, common_steps)
 
 -- a reply of which the first bytes were written
-pub wrote_part : (select : List ℕ) (faults status : ℕ) (before now : SourceView) (w v : Option (List ℕ)) (bytes text : List ℕ) → IsInput before now bytes → record { text = text; status = status } ≡ ask_output select bytes → GrewSome w v text → WrotePart (Ask select) before now w v faults
-wrote_part select faults status before now w v bytes text input is some = record {
+pub wrote_part : (select : List ℕ) (contents : Contents) (faults status : ℕ) (before now : SourceView) (w v : Option (List ℕ)) (bytes text : List ℕ) → IsInput before now bytes → record { text = text; status = status } ≡ ask_output select bytes → GrewSome w v text → WrotePart (Ask select) contents before now w v faults
+wrote_part select contents faults status before now w v bytes text input is some = record {
+  files = no_files;
+  given = tt;
   bytes = bytes;
   text = take some.count text;
   failed = [];
@@ -89,7 +97,7 @@ wrote_part select faults status before now w v bytes text input is some = record
 }
 
 -- a reply has status 0 or 65
-abbrev IsReply : Output → Type 0
+abbrev pub IsReply : Output → Type 0
 IsReply o = (o.status ≡ 0) ⊎ (o.status ≡ 65)
 
 shown_is : (rows : Option (List (List Cell))) → IsReply (shown_answer rows)
@@ -104,9 +112,13 @@ select_is : (tables : List TableView) (reading : Result AstView ℕ) → IsReply
 select_is tables (Err place) = inr refl
 select_is tables (Ok ast) = query_is tables (resolution_of (shapes_of tables) ast)
 
+pub tables_is : (select : List ℕ) (tables : Result (List TableView) LoadFault) → IsReply (answer_over_tables select tables)
+tables_is select (Err e) = inr refl
+tables_is select (Ok tables) = select_is tables (select_reading select)
+
 over_is : (select : List ℕ) (table : Result TableView LoadFault) → IsReply (answer_over select table)
 over_is select (Err e) = inr refl
-over_is select (Ok table) = select_is (table ∷ []) (select_reading select)
+over_is select (Ok table) = tables_is select (Ok (table ∷ []))
 
 ask_is : (select bytes : List ℕ) → IsReply (ask_output select bytes)
 unfolding ask_output

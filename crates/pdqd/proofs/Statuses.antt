@@ -1,15 +1,16 @@
 -- From how a script ended to what a run wrote.
-use Rattle.std.proofs.Common.{◌≡◌, ℕ, ◌≤◌, ◌⊎◌, inl, inr, Bool, List, [], ◌++◌, length, Option, refl, sym, ◌∙◌, ap, subst, arith}
+use Rattle.std.proofs.Common.{◌≡◌, ℕ, ◌≤◌, ◌⊎◌, inl, inr, List, [], Option, sym, ◌∙◌, ap, subst, arith}
 use Rattle.std.proofs.lemmas.List.{append-nil}
 use Rattle.pdq_edge.specs.Bytes.{Grows}
 use Rattle.pdq_edge.specs.Causes.{Rose}
 use Rattle.pdq_model.specs.Configuration.{Configuration}
 use Rattle.pdq_model.specs.State.{State}
-use Rattle.pdq_session.specs.Progress.{SourceView, CanFollow, Begins, Wrote, WroteSome}
+use Rattle.pdq_session.specs.Progress.{SourceView, Wrote, WroteSome}
 use Rattle.pdq_session.specs.ScriptTranscript.{Out, ScriptEnding, script_transcript}
 use Rattle.pdqd.specs.declared.words.Form.TheVariants.{Script}
+use Rattle.pdqd.specs.Files.{Contents, GivenFiles}
 use Rattle.pdqd.specs.Output.{Output}
-use Rattle.pdqd.specs.Run.{run_output, status_of, WroteAll, WrotePart, IsWhole, IsCutOff}
+use Rattle.pdqd.specs.Run.{status_of, WroteAll, WrotePart, IsWhole}
 
 -- what a sink told stays what it grew by
 grows_same : (w0 w v : Option (List ℕ)) (text : List ℕ) → v ≡ w → Grows w0 w text → Grows w0 v text
@@ -19,10 +20,16 @@ grows_same w0 w v text same grew = let P : Option (List ℕ) → Type 0 = λ o. 
 output_of : Out → Output
 output_of out = record { text = out.text; status = status_of out.ending }
 
+-- a script is given no files
+pub no_files : GivenFiles
+no_files = record { schema = []; tables = [] }
+
 -- a script that wrote its whole transcript is a run that wrote all
-pub wrote_all : (c : Configuration) (p faults status : ℕ) (before now : SourceView) (w0 w v : Option (List ℕ)) (ending : ScriptEnding) (state : State) → Wrote before now w0 w (script_transcript c) ending state → v ≡ w → status ≡ status_of ending → WroteAll (Script c p) before now w0 v faults status
+pub wrote_all : (c : Configuration) (contents : Contents) (p faults status : ℕ) (before now : SourceView) (w0 w v : Option (List ℕ)) (ending : ScriptEnding) (state : State) → Wrote before now w0 w (script_transcript c) ending state → v ≡ w → status ≡ status_of ending → WroteAll (Script c p) contents before now w0 v faults status
 unfolding output_of
-wrote_all c p faults status before now w0 w v ending state wrote same is = record {
+wrote_all c contents p faults status before now w0 w v ending state wrote same is = record {
+  files = no_files;
+  given = tt;
   bytes = wrote.bytes;
   text = wrote.text;
   failed = [];
@@ -33,8 +40,10 @@ wrote_all c p faults status before now w0 w v ending state wrote same is = recor
 }
 
 -- and a run that wrote a part, which is all of it
-pub wrote_all_part : (c : Configuration) (p faults : ℕ) (before now : SourceView) (w0 w v : Option (List ℕ)) (ending : ScriptEnding) (state : State) → Wrote before now w0 w (script_transcript c) ending state → v ≡ w → WrotePart (Script c p) before now w0 v faults
-wrote_all_part c p faults before now w0 w v ending state wrote same = record {
+pub wrote_all_part : (c : Configuration) (contents : Contents) (p faults : ℕ) (before now : SourceView) (w0 w v : Option (List ℕ)) (ending : ScriptEnding) (state : State) → Wrote before now w0 w (script_transcript c) ending state → v ≡ w → WrotePart (Script c p) contents before now w0 v faults
+wrote_all_part c contents p faults before now w0 w v ending state wrote same = record {
+  files = no_files;
+  given = tt;
   bytes = wrote.bytes;
   text = wrote.text;
   failed = [];
@@ -45,8 +54,10 @@ wrote_all_part c p faults before now w0 w v ending state wrote same = record {
 }
 
 -- a script that was cut off is a run that was cut off
-pub wrote_some_part : (c : Configuration) (p faults : ℕ) (before now : SourceView) (w0 w : Option (List ℕ)) → WroteSome before now w0 w (script_transcript c) → WrotePart (Script c p) before now w0 w faults
-wrote_some_part c p faults before now w0 w wrote = record {
+pub wrote_some_part : (c : Configuration) (contents : Contents) (p faults : ℕ) (before now : SourceView) (w0 w : Option (List ℕ)) → WroteSome before now w0 w (script_transcript c) → WrotePart (Script c p) contents before now w0 w faults
+wrote_some_part c contents p faults before now w0 w wrote = record {
+  files = no_files;
+  given = tt;
   bytes = wrote.bytes;
   text = wrote.text;
   failed = [];

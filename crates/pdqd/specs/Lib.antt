@@ -2,4 +2,5 @@ pub mod Words
 pub mod Run
 pub mod Output
 pub mod Ask
+pub mod Files
 pub mod Input

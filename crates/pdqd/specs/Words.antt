@@ -1,9 +1,9 @@
 -- The words of the command line, and the forms that they can have.
-use Rattle.std.specs.Prelude.{ℕ, ◌≡◌, ◌≤◌, List, [], ◌∷◌, Bool, not, ◌&&◌, ◌||◌, ◌==◌, nat_lt, nat_le, if◌then◌else◌, Option, Some, None, length, slice_index}
+use Rattle.std.specs.Prelude.{⊤, ℕ, ◌≡◌, ◌≤◌, List, [], ◌∷◌, Bool, not, ◌&&◌, ◌==◌, nat_lt, nat_le, if◌then◌else◌, Option, Some, None, length, slice_index}
 use Rattle.std.specs.List.{list_all}
 use Rattle.std.specs.Str.Parse.{digits_value}
 use Rattle.pdqd.specs.declared.words.Form.{Form}
-use Rattle.pdqd.specs.declared.words.Form.TheVariants.{Script, Ask}
+use Rattle.pdqd.specs.declared.words.Form.TheVariants.{Script, Ask, AskTables}
 use Rattle.pdq_model.specs.Configuration.{configuration, is_valid, IsValid}
 
 abbrev pub is_digit : ℕ → Bool
@@ -35,12 +35,13 @@ abbrev pub is_ask : List ℕ → Bool
 is_ask w = length w == 3 && slice_index w 0 == 97 && slice_index w 1 == 115 && slice_index w 2 == 107
 
 -- at most 8,192 bytes, of which the first is no dash
-abbrev pub is_select : List ℕ → Bool
-is_select w = nat_le (length w) 8192 && not (nat_lt 0 (length w) && slice_index w 0 == 45)
+abbrev pub is_plain_word : List ℕ → Bool
+is_plain_word w = nat_le (length w) 8192 && not (nat_lt 0 (length w) && slice_index w 0 == 45)
 
--- the form of the words after the program's name: `script T Q S m p`, each number in range, or `ask SELECT`; None where they have no form
+-- the form of the words after the program's name: `script T Q S m p`, each number in range, `ask SELECT` or `ask SELECT SCHEMA`; None where they have no form
 unfoldable pub form_of : List (List ℕ) → Option Form
-form_of (word ∷ select ∷ []) = if is_ask word && is_select select then Some (Ask select) else None
+form_of (word ∷ select ∷ []) = if is_ask word && is_plain_word select then Some (Ask select) else None
+form_of (word ∷ select ∷ schema ∷ []) = if is_ask word && is_plain_word select && is_plain_word schema then Some (AskTables select schema) else None
 form_of (word ∷ t ∷ q ∷ s ∷ m ∷ p ∷ []) = if is_script word then script_of (number_of t) (number_of q) (number_of s) (number_of m) (number_of p) else None
 form_of words = None
 
@@ -48,9 +49,16 @@ form_of words = None
 abbrev pub IsInRange : Form → Type 0
 IsInRange (Script config opening) = IsValid config × (opening ≤ 100)
 IsInRange (Ask select) = length select ≤ 8192
+IsInRange (AskTables select schema) = length select ≤ 8192
+
+-- a form that asks a question
+abbrev pub IsQuestion : Form → Type 0
+IsQuestion (Script config opening) = ⊥
+IsQuestion (Ask select) = ⊤
+IsQuestion (AskTables select schema) = ⊤
 
 -- the words ask a question
 pub record Asks (form : Option Form) : Type 0 where
-  pub select : List ℕ
-  pub is : form ≡ Some (Ask select)
-  pub short : length select ≤ 8192
+  pub question : Form
+  pub is : form ≡ Some question
+  pub asks : IsQuestion question

@@ -1,5 +1,8 @@
 //! One question on the tables at hand.
-ghost use Rattle.std.specs.Prelude.{◌≡◌, ◌≢◌, ◌≤◌, ◌∷◌, [], All, AllPairs, IfOk, length, map};
+ghost use Rattle.std.specs.Prelude.{◌≡◌, ◌≢◌, ◌≤◌, ◌∷◌, [], All, AllPairs, IfOk, Ok, IsErrOf, length, map};
+ghost use Rattle.pdq_edge.specs.Causes.{Rose};
+ghost use Rattle.pdq_schema.specs.SchemaFile.{schema_of};
+ghost use Rattle.pdq_table.specs.Loading.{contents_of, tables_loaded};
 ghost use Rattle.pdq_value.specs.Tables.{IsDatabase, IsShape, ShapeView, shape_of, tables_of};
 ghost use Rattle.pdq_sql.specs.Asts.{ast_of};
 ghost use Rattle.pdq_sql.specs.Reading.{select_reading};
@@ -7,16 +10,27 @@ ghost use Rattle.pdq_sql.specs.Resolution.{resolution_of};
 ghost use Rattle.pdq_query.specs.Answer.{answer};
 ghost use Rattle.pdq_query.specs.Fits.{Fits};
 ghost use Rattle.pdq_query.specs.Queries.{query_of};
-ghost use Rattle.pdq_session.specs.Answers.{refused_select, refused_table};
-ghost use Rattle.pdqd.specs.Ask.{answer_to_query, answer_to_select, ask_output, output_of, refused, shapes_of, shown_answer};
+ghost use Rattle.pdq_session.specs.Answers.{refused_schema, refused_select, refused_table};
+ghost use Rattle.pdqd.specs.Ask.{answer_over_tables, answer_to_query, answer_to_select, ask_output, output_of, refused, shapes_of, shown_answer};
+ghost use Rattle.pdqd.specs.Files.{FilesGive, TablesGive};
 
+use crate::input::InputFault;
+use crate::reading_files::{TablesFault, read_table_files};
 use pdq_base::Memory;
+use pdq_edge::{FileFault, Files};
 use pdq_mean::{SerialFault, serial};
-use pdq_session::{add_answer, add_refused_select, add_refused_table, add_too_many_rows};
+use pdq_schema::{Schema, SchemaFault, SchemaWhy, read_schema};
+use pdq_session::{
+    add_answer, add_refused_schema, add_refused_select, add_refused_table, add_too_many_rows,
+};
 use pdq_sql::{Ast, Query, SqlFault, SqlWhy, read_select, resolve};
-use pdq_value::{Db, LoadFault, Table, TableShape, read_plain};
+use pdq_table::{Stored, load};
+use pdq_value::{Db, LoadFault, LoadWhy, Table, TableShape, read_plain};
 use std::alloc::Global;
 use std::slice;
+
+/// The most bytes of a schema file.
+const MOST_SCHEMA_BYTES: u64 = 1_048_576;
 
 /// The status of a question that is answered.
 const ANSWERED: u8 = 0;
@@ -152,5 +166,133 @@ pub(crate) fn reply_to(alloc: Global, select: &[u8], bytes: Vec<u8>) -> Result<R
         }
         Err(LoadFault::Memory) => Err(Memory),
         Err(fault) => refused_table(alloc, fault),
+    }
+}
+
+/// The reply to a select over stored tables.
+fn reply_over_stored(
+    alloc: Global,
+    select: &[u8],
+    schema: &Schema,
+    stored: Stored,
+) -> Result<Reply, Memory>
+    requires size { length select.now ≤ 8192 }
+    requires schema { stored.schema ≡ schema.now }
+    ensures reply { IfOk result (λ r. output_of r ≡ answer_over_tables select.now (Ok stored.tables)) }
+{
+    let db = stored.to_db(alloc)?;
+    drop(stored);
+    reply_to_select(alloc, schema.shapes(), &db, select)
+}
+
+/// The reply to a select over the tables of a schema, whose files have these bytes.
+fn reply_over_tables(
+    alloc: Global,
+    select: &[u8],
+    schema: &Schema,
+    tables: Vec<Vec<u8>>,
+) -> Result<Reply, Memory>
+    requires size { length select.now ≤ 8192 }
+    requires files { length tables.items ≡ length schema.now.shapes }
+    ensures reply { IfOk result (λ r. output_of r ≡ answer_over_tables select.now (tables_loaded schema.now.shapes (contents_of tables.items))) }
+{
+    let stored = load(alloc, schema, &tables);
+    drop(tables);
+    match stored {
+        Ok(stored) => reply_over_stored(alloc, select, schema, stored),
+        Err(LoadFault::Memory) => Err(Memory),
+        Err(fault) => refused_table(alloc, fault),
+    }
+}
+
+/// The fault of a table whose file is too long.
+fn too_long(table: u32) -> LoadFault
+    ensures value { result ≡ LoadFault.Wrong LoadWhy.TooLong table 0 0 }
+{
+    LoadFault::Wrong {
+        why: LoadWhy::TooLong,
+        table,
+        row_no: 0,
+        column: 0,
+    }
+}
+
+/// The reply to a select over the tables of a schema.
+fn reply_over_files<F: Files>(
+    alloc: Global,
+    select: &[u8],
+    schema: &Schema,
+    files: &mut F,
+) -> Result<Reply, InputFault>
+    requires size { length select.now ≤ 8192 }
+    ensures reply { IfOk result (λ r. TablesGive (F.contents files.old) select.now (Ok schema.now) (output_of r)) }
+    ensures failed { IsErrOf result InputFault.Failed → Rose (F.faults files.old) (F.faults files.new) }
+{
+    match read_table_files(alloc, schema, files) {
+        Ok(tables) => Ok(reply_over_tables(alloc, select, schema, tables)?),
+        Err(TablesFault::Failed) => Err(InputFault::Failed),
+        Err(TablesFault::TooLong(table)) => Ok(refused_table(alloc, too_long(table))?),
+        Err(TablesFault::Memory) => Err(InputFault::Memory),
+    }
+}
+
+fn refused_schema(alloc: Global, fault: SchemaFault) -> Result<Reply, Memory>
+    ensures reply { IfOk result (λ r. output_of r ≡ refused (refused_schema fault)) }
+{
+    let mut text = Vec::new(alloc);
+    add_refused_schema(alloc, &mut text, fault)?;
+    Ok(Reply {
+        text,
+        status: REFUSED,
+    })
+}
+
+/// The fault of a schema file that is too long.
+fn long_schema() -> SchemaFault
+    ensures value { result ≡ SchemaFault.Wrong SchemaWhy.TooMany 0 0 }
+{
+    SchemaFault::Wrong {
+        why: SchemaWhy::TooMany,
+        table: 0,
+        column: 0,
+    }
+}
+
+/// The reply to a select over the tables of the schema that the bytes say.
+fn reply_with_schema<F: Files>(
+    alloc: Global,
+    select: &[u8],
+    bytes: Vec<u8>,
+    files: &mut F,
+) -> Result<Reply, InputFault>
+    requires size { length select.now ≤ 8192 }
+    ensures reply { IfOk result (λ r. TablesGive (F.contents files.old) select.now (schema_of bytes.items) (output_of r)) }
+    ensures failed { IsErrOf result InputFault.Failed → Rose (F.faults files.old) (F.faults files.new) }
+{
+    let schema = read_schema(alloc, &bytes);
+    drop(bytes);
+    match schema {
+        Ok(schema) => reply_over_files(alloc, select, &schema, files),
+        Err(SchemaFault::Memory) => Err(InputFault::Memory),
+        Err(fault) => Ok(refused_schema(alloc, fault)?),
+    }
+}
+
+/// The reply to a select over the tables of the schema file of this name.
+pub(crate) fn reply_from_files<F: Files>(
+    alloc: Global,
+    select: &[u8],
+    schema: &str,
+    files: &mut F,
+) -> Result<Reply, InputFault>
+    requires size { length select.now ≤ 8192 }
+    ensures reply { IfOk result (λ r. FilesGive (F.contents files.old) select.now schema.now (output_of r)) }
+    ensures failed { IsErrOf result InputFault.Failed → Rose (F.faults files.old) (F.faults files.new) }
+{
+    match files.read_whole(alloc, schema, MOST_SCHEMA_BYTES) {
+        Ok(bytes) => reply_with_schema(alloc, select, bytes, files),
+        Err(FileFault::Failed) => Err(InputFault::Failed),
+        Err(FileFault::TooLong) => Ok(refused_schema(alloc, long_schema())?),
+        Err(FileFault::Memory) => Err(InputFault::Memory),
     }
 }

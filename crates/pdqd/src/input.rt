@@ -4,6 +4,7 @@ ghost use Rattle.pdq_edge.specs.Causes.{Rose};
 ghost use Rattle.pdq_session.specs.Progress.{Came, source_view};
 ghost use Rattle.pdqd.specs.Input.{GaveSome, IsInput};
 
+use pdq_base::Memory;
 use pdq_edge::Source;
 use std::alloc::Global;
 
@@ -16,10 +17,20 @@ const PIECE: usize = 16_384;
 /// Why the input is not at hand.
 #[derive(Clone, Copy)]
 pub(crate) enum InputFault {
-    /// The source failed.
+    /// The source or a file failed.
     Failed,
     /// Memory was wanting.
     Memory,
+}
+
+impl From<Memory> for InputFault {
+    ghost use Rattle.pdqd.specs.declared.input.InputFault.TheVariants.{Memory};
+
+    ghost from_gives = { λ _ e. e ≡ Memory };
+
+    fn from(_memory: Memory) -> InputFault {
+        InputFault::Memory
+    }
 }
 
 /// Reads the source to its end, or until it has given more bytes than a plain table may have.

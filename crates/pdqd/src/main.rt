@@ -1,18 +1,24 @@
-//! The program: one command, from the words it is given, standard input and standard output. The status is that of `run`.
+//! The program: one command, from the words it is given, the files of the working folder, standard input and standard output.
+//! The status is that of `run`.
 #![tactic(auto)]
 
 ghost use Rattle.std.specs.Prelude.{◌≡◌, IfOk, vec_len};
 
 mod asking;
+mod file_names;
 mod input;
+mod reading_files;
 mod run;
+#[cfg(test)]
+mod tables_tests;
 #[cfg(test)]
 mod tests;
 mod words;
 
-use pdq_edge::{Reading, SureFiles, SureSpill, Writing};
+use pdq_edge::{Folder, Reading, SureSpill, Writing};
 pub use run::run;
 use std::alloc::{AllocError, Global};
+use std::path::PathBuf;
 use std::process::ExitCode;
 use std::{env, io};
 
@@ -53,7 +59,7 @@ fn main(rt: HostRuntime) -> ExitCode {
     let Ok(mut stores) = stores_made(alloc) else {
         return ExitCode::from(NO_MEMORY);
     };
-    let mut files = SureFiles::new(Vec::new(alloc));
+    let mut files = Folder::new(&rt, PathBuf::new(alloc));
     let mut source = Reading::new(rt.stdin());
     let mut sink = Writing::new(rt.stdout());
     ExitCode::from(run(

@@ -1,13 +1,14 @@
 //! One command, from the source to the sink.
-ghost use Rattle.std.specs.Prelude.{◌≡◌, ◌≢◌, ◌≤◌, ◌-◌, ◌↔◌, ◌⊎◌, ℕ, None, IfSome, IsTrue, length, map, string_bytes, sum_by, vec_len};
+ghost use Rattle.std.specs.Prelude.{◌≡◌, ◌≢◌, ◌≤◌, ◌-◌, ◌↔◌, ◌⊎◌, ℕ, List, Option, None, IfSome, IsTrue, length, map, string_bytes, sum_by, vec_len};
 ghost use Rattle.pdq_edge.specs.Bytes.{Grows, GrewSome};
 ghost use Rattle.pdq_edge.specs.Causes.{Rose};
 ghost use Rattle.pdq_model.specs.State.{opening_state};
-ghost use Rattle.pdq_session.specs.Progress.{source_view};
+ghost use Rattle.pdq_session.specs.Progress.{SourceView, source_view};
+ghost use Rattle.pdqd.specs.Files.{Contents};
 ghost use Rattle.pdqd.specs.Words.{form_of, IsInRange};
-ghost use Rattle.pdqd.specs.Run.{IsStatus, IsWhole, IsCutOff, KeepsItsRules, RunsScript, WroteAll, WrotePart};
+ghost use Rattle.pdqd.specs.Run.{HasEnded, IsStatus, IsWhole, IsCutOff, KeepsItsRules, LeavesUnread, RunsScript, WroteAll, WrotePart};
 
-use crate::asking::{Reply, reply_to};
+use crate::asking::{Reply, reply_from_files, reply_to};
 use crate::input::{InputFault, read_input};
 use crate::words::{Form, read_words};
 use pdq_base::Memory;
@@ -88,9 +89,9 @@ fn script_status<So: Source, Si: Sink>(
     sink: &mut Si,
 ) -> u8
     ensures known { (IsWhole result) ⊎ (IsCutOff result) }
-    ensures whole { (opening faults : ℕ) → IsWhole result → WroteAll (Form.Script config opening)
+    ensures whole { (contents : Contents) (opening faults : ℕ) → IsWhole result → WroteAll (Form.Script config opening) contents
         (source_view So.left So.taken So.ended source.old) (source_view So.left So.taken So.ended source.new) (Si.written sink.old) (Si.written sink.new) faults result }
-    ensures part { (opening faults : ℕ) → IsCutOff result → WrotePart (Form.Script config opening)
+    ensures part { (contents : Contents) (opening faults : ℕ) → IsCutOff result → WrotePart (Form.Script config opening) contents
         (source_view So.left So.taken So.ended source.old) (source_view So.left So.taken So.ended source.new) (Si.written sink.old) (Si.written sink.new) faults }
     ensures ended { result ≡ 0 → IsTrue (So.ended source.new) }
     ensures read { result ≡ 66 → Rose (So.faults source.old) (So.faults source.new) }
@@ -127,9 +128,9 @@ fn ask_status<So: Source, Si: Sink>(
 ) -> u8
     requires size { length select.now ≤ 8192 }
     ensures known { (IsWhole result) ⊎ (IsCutOff result) }
-    ensures whole { (faults : ℕ) → IsWhole result → WroteAll (Form.Ask select.now)
+    ensures whole { (contents : Contents) (faults : ℕ) → IsWhole result → WroteAll (Form.Ask select.now) contents
         (source_view So.left So.taken So.ended source.old) (source_view So.left So.taken So.ended source.new) (Si.written sink.old) (Si.written sink.new) faults result }
-    ensures part { (faults : ℕ) → IsCutOff result → WrotePart (Form.Ask select.now)
+    ensures part { (contents : Contents) (faults : ℕ) → IsCutOff result → WrotePart (Form.Ask select.now) contents
         (source_view So.left So.taken So.ended source.old) (source_view So.left So.taken So.ended source.new) (Si.written sink.old) (Si.written sink.new) faults }
     ensures ended { result ≡ 0 → IsTrue (So.ended source.new) }
     ensures read { result ≡ 66 → Rose (So.faults source.old) (So.faults source.new) }
@@ -146,35 +147,71 @@ fn ask_status<So: Source, Si: Sink>(
     }
 }
 
+/// Answers a question on the tables of a schema file, flushes the sink, and answers the status.
+fn ask_tables_status<F: Files, Si: Sink>(
+    alloc: Global,
+    select: &[u8],
+    schema: &str,
+    files: &mut F,
+    sink: &mut Si,
+) -> u8
+    requires size { length select.now ≤ 8192 }
+    ensures known { (IsWhole result) ⊎ (IsCutOff result) }
+    ensures whole { (source : SourceView) (faults : ℕ) → IsWhole result →
+        WroteAll (Form.AskTables select.now schema.now) (F.contents files.old) source source (Si.written sink.old) (Si.written sink.new) faults result }
+    ensures part { (source : SourceView) (faults : ℕ) → IsCutOff result →
+        WrotePart (Form.AskTables select.now schema.now) (F.contents files.old) source source (Si.written sink.old) (Si.written sink.new) faults }
+    ensures read { result ≡ 66 → Rose (F.faults files.old) (F.faults files.new) }
+    ensures write { result ≡ 74 → Rose (Si.faults sink.old) (Si.faults sink.new) }
+{
+    match reply_from_files(alloc, select, schema, files) {
+        Ok(reply) => write_reply(sink, &reply),
+        Err(InputFault::Failed) => NO_INPUT,
+        Err(InputFault::Memory) => NO_MEMORY,
+    }
+}
+
 /// Runs a command of this form.
-fn run_form<So: Source, Si: Sink>(alloc: Global, form: Form, source: &mut So, sink: &mut Si) -> u8
+fn run_form<F: Files, So: Source, Si: Sink>(
+    alloc: Global,
+    form: Form,
+    files: &mut F,
+    source: &mut So,
+    sink: &mut Si,
+) -> u8
     requires range { IsInRange form }
     ensures known { (IsWhole result) ⊎ (IsCutOff result) }
-    ensures whole { (faults : ℕ) → IsWhole result → WroteAll form
+    ensures whole { (faults : ℕ) → IsWhole result → WroteAll form (F.contents files.old)
         (source_view So.left So.taken So.ended source.old) (source_view So.left So.taken So.ended source.new) (Si.written sink.old) (Si.written sink.new) faults result }
-    ensures part { (faults : ℕ) → IsCutOff result → WrotePart form
+    ensures part { (faults : ℕ) → IsCutOff result → WrotePart form (F.contents files.old)
         (source_view So.left So.taken So.ended source.old) (source_view So.left So.taken So.ended source.new) (Si.written sink.old) (Si.written sink.new) faults }
-    ensures ended { result ≡ 0 → IsTrue (So.ended source.new) }
-    ensures read { result ≡ 66 → Rose (So.faults source.old) (So.faults source.new) }
+    ensures ended { result ≡ 0 → HasEnded form (So.ended source.new) }
+    ensures untouched { LeavesUnread form (source_view So.left So.taken So.ended source.old) (source_view So.left So.taken So.ended source.new) }
+    ensures read { result ≡ 66 → (Rose (So.faults source.old) (So.faults source.new)) ⊎ (Rose (F.faults files.old) (F.faults files.new)) }
     ensures write { result ≡ 74 → Rose (Si.faults sink.old) (Si.faults sink.new) }
 {
     match form {
         Form::Script { config, opening: _ } => script_status(alloc, config, source, sink),
         Form::Ask(select) => ask_status(alloc, select.bytes(), source, sink),
+        Form::AskTables { select, schema } => {
+            ask_tables_status(alloc, select.bytes(), schema.as_str(), files, sink)
+        }
     }
 }
 
 /// Runs the command that the words ask for, from the source to the sink, and answers the status of the program.
 ///
-/// The words are those after the program's name, and the stores are 48. Today there are two forms. `script T Q S m p` runs the
+/// The words are those after the program's name, and the stores are 48. Today there are three forms. `script T Q S m p` runs the
 /// lines of the source: DS_TOTAL_MEMORY in KB, DS_MAX_QUERIES, DS_MAX_SCANS, MAX_PDQPRIORITY and the opening priority, each a
 /// number of 1 to 7 digits without a leading zero, or 0. `ask SELECT` answers the select over the plain table of the source.
-/// The statuses are our own, after those of sysexits.
+/// `ask SELECT SCHEMA` answers it over the tables of the schema file of that name: the schema file is read and understood, then
+/// the file of each table is read in the order of the schema, up to the first that is too long, then the tables are loaded, and
+/// then the select is read. The statuses are our own, after those of sysexits.
 pub fn run<R: Threads + Sync, F: Files, So: Source, Si: Sink, Sp: Spill>(
     _rt: &R,
     alloc: Global,
     words: &[String],
-    _files: &mut F,
+    files: &mut F,
     source: &mut So,
     sink: &mut Si,
     stores: &mut Vec<Sp>,
@@ -186,16 +223,20 @@ pub fn run<R: Threads + Sync, F: Files, So: Source, Si: Sink, Sp: Spill>(
     // 64 exactly where the words have no form, or a number is out of range; then nothing was read or written.
     ensures form { (result ≡ 64) ↔ (form_of (map string_bytes words.now) ≡ None) }
     ensures unread { result ≡ 64 → So.taken source.new ≡ So.taken source.old }
+    ensures files_unread { result ≡ 64 → files.new ≡ files.old }
     ensures unwritten { result ≡ 64 → Si.written sink.new ≡ Si.written sink.old }
 
-    // With 0 and 65 what was written and the status are those of the words and of the bytes that the source gave, all of them with 0.
-    ensures whole { IsWhole result → IfSome (form_of (map string_bytes words.now)) (λ form. WroteAll form
+    // With 0 and 65 what was written and the status are those of the words, of the files and of the bytes that the source gave,
+    // all of them with 0. A form that does not read the source leaves it as it was.
+    ensures whole { IsWhole result → IfSome (form_of (map string_bytes words.now)) (λ form. WroteAll form (F.contents files.old)
         (source_view So.left So.taken So.ended source.old) (source_view So.left So.taken So.ended source.new) (Si.written sink.old) (Si.written sink.new)
         (sum_by Sp.faults stores.new.items - sum_by Sp.faults stores.old.items) result) }
-    ensures ended { result ≡ 0 → IsTrue (So.ended source.new) }
+    ensures ended { result ≡ 0 → IfSome (form_of (map string_bytes words.now)) (λ form. HasEnded form (So.ended source.new)) }
+    ensures untouched { IfSome (form_of (map string_bytes words.now)) (λ form.
+        LeavesUnread form (source_view So.left So.taken So.ended source.old) (source_view So.left So.taken So.ended source.new)) }
 
     // What was written before a fault, or before memory was wanting, begins what would have been written without it.
-    ensures part { IsCutOff result → IfSome (form_of (map string_bytes words.now)) (λ form. WrotePart form
+    ensures part { IsCutOff result → IfSome (form_of (map string_bytes words.now)) (λ form. WrotePart form (F.contents files.old)
         (source_view So.left So.taken So.ended source.old) (source_view So.left So.taken So.ended source.new) (Si.written sink.old) (Si.written sink.new)
         (sum_by Sp.faults stores.new.items - sum_by Sp.faults stores.old.items)) }
 
@@ -203,7 +244,7 @@ pub fn run<R: Threads + Sync, F: Files, So: Source, Si: Sink, Sp: Spill>(
     ensures lawful { IfSome (form_of (map string_bytes words.now)) KeepsItsRules }
 
     // A fault has its cause.
-    ensures read { result ≡ 66 → Rose (So.faults source.old) (So.faults source.new) }
+    ensures read { result ≡ 66 → (Rose (So.faults source.old) (So.faults source.new)) ⊎ (Rose (F.faults files.old) (F.faults files.new)) }
     ensures write { result ≡ 74 → Rose (Si.faults sink.old) (Si.faults sink.new) }
 {
     let Ok(form) = read_words(alloc, words) else {
@@ -212,5 +253,5 @@ pub fn run<R: Threads + Sync, F: Files, So: Source, Si: Sink, Sp: Spill>(
     let Some(form) = form else {
         return USAGE;
     };
-    run_form(alloc, form, source, sink)
+    run_form(alloc, form, files, source, sink)
 }

@@ -1,8 +1,9 @@
 //! The words of the command line.
 ghost use Rattle.std.specs.Prelude.{◌≡◌, ◌&&◌, ◌==◌, IfOk, IfSome, OnErr, length, map, nat_lt, slice_index, string_bytes};
 ghost use Rattle.std.specs.List.{list_all};
-ghost use Rattle.pdqd.specs.Words.{is_digit, has_digits, has_leading_zero, is_number, number_of, script_of, is_ask, is_script, is_select, form_of, Asks, IsInRange};
+ghost use Rattle.pdqd.specs.Words.{is_digit, has_digits, has_leading_zero, is_number, number_of, script_of, is_ask, is_script, is_plain_word, form_of, Asks, IsInRange};
 
+use crate::file_names::FileName;
 use pdq_base::Memory;
 use pdq_model::Config;
 use pdq_value::Text;
@@ -15,6 +16,8 @@ pub(crate) enum Form {
     Script { config: Config, opening: u32 },
     /// The answer of a select over the plain table of the source.
     Ask(Text),
+    /// The answer of a select over the tables of the schema file of this name.
+    AskTables { select: Text, schema: FileName },
 }
 
 fn is_digit(b: u8) -> bool
@@ -106,8 +109,8 @@ fn begins_with_dash(word: &[u8]) -> bool
     !word.is_empty() && word[0] == b'-'
 }
 
-fn is_select(word: &[u8]) -> bool
-    ensures value { result ≡ is_select word.now }
+fn is_plain_word(word: &[u8]) -> bool
+    ensures value { result ≡ is_plain_word word.now }
 {
     word.len() <= 8192 && !begins_with_dash(word)
 }
@@ -124,11 +127,22 @@ pub(crate) fn read_words(alloc: Global, words: &[String]) -> Result<Option<Form>
 {
     match words {
         [word, select] => {
-            if !is_ask(word.as_bytes()) || !is_select(select.as_bytes()) {
+            if !is_ask(word.as_bytes()) || !is_plain_word(select.as_bytes()) {
                 return Ok(None);
             }
             let select = Text::from_bytes(alloc, select.as_bytes())?;
             Ok(Some(Form::Ask(select)))
+        }
+        [word, select, schema] => {
+            if !is_ask(word.as_bytes())
+                || !is_plain_word(select.as_bytes())
+                || !is_plain_word(schema.as_bytes())
+            {
+                return Ok(None);
+            }
+            let select = Text::from_bytes(alloc, select.as_bytes())?;
+            let schema = FileName::copied(alloc, schema)?;
+            Ok(Some(Form::AskTables { select, schema }))
         }
         [word, t, q, s, m, p] => {
             if !is_script(word.as_bytes()) {

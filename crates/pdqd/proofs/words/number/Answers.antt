@@ -1,8 +1,6 @@
 use Rattle.std.proofs.Common.{◌≡◌, true, ap, sym, ◌∙◌}
-use Rattle.std.specs.Prelude.{Some}
 use Rattle.std.specs.Result.{result_ok}
-use Rattle.std.specs.Str.Parse.{digits_value}
-use Rattle.pdqd.specs.Words.{is_number, number_of}
+use Rattle.pdqd.specs.Words.{is_number}
 use Rattle.pdqd.proofs.Numbers.{parsed, number_some, digits_of}
 use Rattle.pdqd.proofs.words.number.Goals as goal
 
