@@ -1,5 +1,5 @@
 -- What the forms in memory hold.
-use Rattle.std.specs.Prelude.{ℕ, ◌<◌, ◌≤◌, ◌==◌, ◌||◌, Bool, false, List, [], ◌∷◌, ◌++◌, ◌+◌, drop, length}
+use Rattle.std.specs.Prelude.{ℕ, ◌<◌, ◌≤◌, ◌==◌, ◌||◌, Bool, false, List, [], ◌∷◌, ◌++◌, ◌+◌, drop, length, Option}
 use Rattle.pdq_edge.specs.Bytes.{told_count}
 
 -- bytes that are still to be read, how many were read, and whether the end was answered
@@ -32,9 +32,15 @@ pub record FailingSource : Type 0 where
   pub most : ℕ
   pub calls : Calls
 
--- a sink in memory with room for so many bytes
+-- the bytes that a sink took, and those of them that it handed on, where they are told
+pub record SinkBytes : Type 0 where
+  pub written : Option (List ℕ)
+  pub flushed : Option (List ℕ)
+
+-- a sink in memory with room for so many bytes, and the bytes that it handed on
 pub record FailingSink : Type 0 where
   pub bytes : List ℕ
+  pub flushed : List ℕ
   pub room : ℕ
   pub calls : Calls
 
@@ -56,7 +62,7 @@ source_failed source = record { unread = source.unread; most = source.most; call
 
 -- an empty sink
 abbrev pub fresh_sink : ℕ → List ℕ → FailingSink
-fresh_sink room fails = record { bytes = []; room = room; calls = record { made = 0; fails = fails; faults = 0 } }
+fresh_sink room fails = record { bytes = []; flushed = []; room = room; calls = record { made = 0; fails = fails; faults = 0 } }
 
 -- a piece with bytes, none of which fits the sink
 pub record Overfills (sink : FailingSink) (piece : List ℕ) : Type 0 where
@@ -65,11 +71,15 @@ pub record Overfills (sink : FailingSink) (piece : List ℕ) : Type 0 where
 
 -- a sink after a call that took these bytes
 abbrev pub sink_written : FailingSink → List ℕ → FailingSink
-sink_written sink bytes = record { bytes = sink.bytes ++ bytes; room = sink.room; calls = called sink.calls }
+sink_written sink bytes = record { bytes = sink.bytes ++ bytes; flushed = sink.flushed; room = sink.room; calls = called sink.calls }
+
+-- a sink after a flush
+abbrev pub sink_flushed : FailingSink → FailingSink
+sink_flushed sink = record { bytes = sink.bytes; flushed = sink.bytes; room = sink.room; calls = called sink.calls }
 
 -- a sink after a call that failed
 abbrev pub sink_failed : FailingSink → FailingSink
-sink_failed sink = record { bytes = sink.bytes; room = sink.room; calls = faulted (called sink.calls) }
+sink_failed sink = record { bytes = sink.bytes; flushed = sink.flushed; room = sink.room; calls = faulted (called sink.calls) }
 
 -- a store in memory
 pub record Store : Type 0 where

@@ -1,4 +1,4 @@
-ghost use Rattle.std.specs.Prelude.{◌≡◌, ◌<◌, ◌≤◌, ℕ, List, Option, length, IfOk, IfSome, IsErrOf};
+ghost use Rattle.std.specs.Prelude.{◌≡◌, ◌<◌, ◌≤◌, ℕ, List, Option, length, IfOk, IfSome, IsErrOf, OnOk};
 ghost use Rattle.pdq_edge.specs.Causes.{Rose};
 
 use std::alloc::Global;
@@ -29,5 +29,8 @@ pub trait Files {
         ensures too_long { IsErrOf result FileFault.TooLong → IfSome (contents self.old name.now) (λ bytes. limit < length bytes) }
         ensures same { (other : List ℕ) → contents self.new other ≡ contents self.old other }
         ensures later { faults self.old ≤ faults self.new }
+        ensures passed { OnOk result (faults self.new ≡ faults self.old) }
+        ensures too_long_faults { IsErrOf result FileFault.TooLong → faults self.new ≡ faults self.old }
+        ensures memory { IsErrOf result FileFault.Memory → faults self.new ≡ faults self.old }
         ensures failed { IsErrOf result FileFault.Failed → Rose (faults self.old) (faults self.new) };
 }

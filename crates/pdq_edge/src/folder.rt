@@ -1,4 +1,4 @@
-ghost use Rattle.std.specs.Prelude.{◌≡◌, ◌<◌, ◌≤◌, ◌+◌, IfOk, IfSome, IsErrOf, length};
+ghost use Rattle.std.specs.Prelude.{◌≡◌, ◌≢◌, ◌<◌, ◌≤◌, ◌+◌, IfOk, IfSome, IsErrOf, length};
 ghost use Rattle.pdq_edge.specs.Bytes.{AreAll, GaveCount};
 ghost use Rattle.pdq_edge.specs.Causes.{Rose};
 
@@ -74,6 +74,7 @@ impl<R: fs::Files> Folder<R> {
         ensures same { result ≡ fault }
         ensures later { self.old.faults ≤ self.new.faults }
         ensures rose { fault ≡ FileFault.Failed → Rose self.old.faults self.new.faults }
+        ensures told { fault ≢ FileFault.Failed → self.new.faults ≡ self.old.faults }
     {
         if fault == FileFault::Failed {
             self.faults = self.faults.saturating_add(1);

@@ -133,6 +133,7 @@ impl Files for MemFiles {
         ensures err_too_long { IsErrOf result FileFault.TooLong → self.new ≡ files_called self.old }
         ensures err_memory { IsErrOf result FileFault.Memory → self.new ≡ files_called self.old }
         ensures later { self.old.calls.faults ≤ self.new.calls.faults }
+        ensures passed { OnOk result (self.new.calls.faults ≡ self.old.calls.faults) }
         ensures failed { IsErrOf result FileFault.Failed → Rose self.old.calls.faults self.new.calls.faults }
     {
         let listed = self.calls.fails();

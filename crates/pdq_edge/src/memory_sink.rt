@@ -1,7 +1,7 @@
 ghost use Rattle.std.specs.Prelude.{◌≡◌, ◌<◌, ◌-◌, ◌↔◌, ◌⊎◌, Contains, IfOk, IfSome, IsErr, Ok, OnErr, OnOk, Some, [], length, min, take};
 ghost use Rattle.pdq_edge.specs.Bytes.{Grows};
 ghost use Rattle.pdq_edge.specs.Causes.{HasCause};
-ghost use Rattle.pdq_edge.specs.InMemory.{Overfills, sink_failed, sink_written};
+ghost use Rattle.pdq_edge.specs.InMemory.{Overfills, sink_failed, sink_flushed, sink_written};
 
 use crate::calls::FailingCalls;
 use crate::{Failed, Sink};
@@ -9,49 +9,60 @@ use pdq_base::Memory;
 use std::alloc::Global;
 use std::marker::Model;
 
-/// A sink in memory that never fails. Once memory was wanting for a piece, it no longer tells what it holds.
+/// A sink in memory that never fails. Once memory was wanting for a piece, it no longer tells what it holds, and from
+/// the next flush on not what it handed on.
 #[derive(Drop)]
 pub struct SureSink {
     bytes: Vec<u8>,
     wanting: bool,
+    flushed: usize,
+    flush_wanting: bool,
 }
 
 impl Model for SureSink {
-    ghost use Rattle.std.specs.Prelude.{List, ℕ, Option, None, Some, if◌then◌else◌};
+    ghost use Rattle.std.specs.Prelude.{◌≤◌, Option, None, Some, take, vec_len, if◌then◌else◌};
+    ghost use Rattle.pdq_edge.specs.InMemory.{SinkBytes};
 
-    ghost Value = { Option (List ℕ) };
+    ghost Value = { SinkBytes };
 
-    ghost view = { λ s. if s.wanting then None else Some s.bytes.items };
+    ghost view = { λ s. record { written = if s.wanting then None else Some s.bytes.items; flushed = if s.flush_wanting then None else Some (take s.flushed s.bytes.items) } };
+
+    ghost invariant = { λ s. s.flushed ≤ vec_len s.bytes };
 }
 
 impl SureSink {
     /// An empty sink.
     pub fn new(alloc: Global) -> Self
-        ensures empty { result ≡ Some [] }
+        ensures empty { result ≡ record { written = Some []; flushed = Some [] } }
     {
         SureSink {
             bytes: Vec::new(alloc),
             wanting: false,
+            flushed: 0,
+            flush_wanting: false,
         }
     }
 
     /// The bytes that it holds, where it tells them.
     pub fn bytes(&self) -> &[u8]
-        ensures bytes { IfSome self.now (λ bytes. result.now ≡ bytes) }
+        ensures bytes { IfSome self.now.written (λ bytes. result.now ≡ bytes) }
     {
         &self.bytes
     }
 }
 
 impl Sink for SureSink {
-    ghost written = { λ s. s };
+    ghost written = { λ s. s.written };
+
+    ghost flushed = { λ s. s.flushed };
 
     ghost faults = { λ s. 0 };
 
     /// Takes the whole piece.
     fn write(&mut self, from: &[u8]) -> Result<usize, Failed>
         ensures whole { result ≡ Ok (length from.now) }
-        ensures bytes { Grows self.old self.new from.now }
+        ensures bytes { Grows self.old.written self.new.written from.now }
+        ensures flushed { self.new.flushed ≡ self.old.flushed }
     {
         if self.bytes.extend_from_slice(from).is_err() {
             self.wanting = true;
@@ -60,6 +71,8 @@ impl Sink for SureSink {
     }
 
     fn flush(&mut self) -> Result<(), Failed> {
+        self.flushed = self.bytes.len();
+        self.flush_wanting = self.wanting;
         Ok(())
     }
 }
@@ -69,19 +82,20 @@ impl Sink for SureSink {
 #[derive(Drop)]
 pub struct MemSink {
     bytes: Vec<u8>,
+    flushed: usize,
     room: usize,
     calls: FailingCalls,
 }
 
 impl Model for MemSink {
-    ghost use Rattle.std.specs.Prelude.{◌≤◌, vec_capacity, vec_len};
+    ghost use Rattle.std.specs.Prelude.{◌≤◌, take, vec_capacity, vec_len};
     ghost use Rattle.pdq_edge.specs.InMemory.{FailingSink};
 
     ghost Value = { FailingSink };
 
-    ghost view = { λ s. record { bytes = s.bytes.items; room = s.room; calls = s.calls } };
+    ghost view = { λ s. record { bytes = s.bytes.items; flushed = take s.flushed s.bytes.items; room = s.room; calls = s.calls } };
 
-    ghost invariant = { λ s. (s.room ≤ vec_capacity s.bytes) × (vec_len s.bytes ≤ s.room) };
+    ghost invariant = { λ s. (s.room ≤ vec_capacity s.bytes) × (vec_len s.bytes ≤ s.room) × (s.flushed ≤ vec_len s.bytes) };
 }
 
 impl MemSink {
@@ -96,6 +110,7 @@ impl MemSink {
         let bytes = Vec::with_capacity(alloc, room).map_err(|_| Memory)?;
         Ok(MemSink {
             bytes,
+            flushed: 0,
             room,
             calls: FailingCalls::new(fails),
         })
@@ -111,6 +126,8 @@ impl MemSink {
 
 impl Sink for MemSink {
     ghost written = { λ s. Some s.bytes };
+
+    ghost flushed = { λ s. Some s.flushed };
 
     ghost faults = { λ s. s.calls.faults };
 
@@ -137,7 +154,7 @@ impl Sink for MemSink {
     /// Fails exactly at the listed calls.
     fn flush(&mut self) -> Result<(), Failed>
         ensures listed { IsErr result ↔ Contains self.old.calls.fails self.old.calls.made }
-        ensures ok { OnOk result (self.new ≡ sink_written self.old []) }
+        ensures ok { OnOk result (self.new ≡ sink_flushed self.old) }
         ensures err { OnErr result (self.new ≡ sink_failed self.old) }
         ensures cause { HasCause self.old.calls.faults self.new.calls.faults result }
     {
@@ -145,6 +162,7 @@ impl Sink for MemSink {
             self.calls.fault();
             return Err(Failed);
         }
+        self.flushed = self.bytes.len();
         Ok(())
     }
 }

@@ -15,7 +15,7 @@ pub enum StoreFault {
 
 /// A store for blocks of 4,096 bytes that overflow, each at a place counted from 0. It holds at most 4,294,967,294
 /// blocks and counts at most 2^64 - 1 puts.
-pub trait Spill: Send {
+pub trait Spill {
     // The blocks, each at its place, where they are told.
     ghost blocks: { Self → Option (List (List ℕ)) };
 
@@ -42,6 +42,8 @@ pub trait Spill: Send {
         ensures err_held { OnErr result (held self.new ≡ held self.old) }
         ensures err_puts { OnErr result (puts self.new ≡ puts self.old) }
         ensures later { faults self.old ≤ faults self.new }
+        ensures passed { OnOk result (faults self.new ≡ faults self.old) }
+        ensures memory { IsErrOf result StoreFault.Memory → faults self.new ≡ faults self.old }
         ensures failed { IsErrOf result StoreFault.Failed → Rose (faults self.old) (faults self.new) };
 
     /// Gets the block at a place.
@@ -54,12 +56,12 @@ pub trait Spill: Send {
         ensures puts { puts self.new ≡ puts self.old }
         ensures cause { HasCause (faults self.old) (faults self.new) result };
 
-    /// Takes all blocks out.
+    /// Takes all blocks out, which never fails.
     fn clear(&mut self)
         ensures blocks { blocks self.new ≡ emptied (blocks self.old) }
         ensures held { held self.new ≡ 0 }
         ensures puts { puts self.new ≡ puts self.old }
-        ensures later { faults self.old ≤ faults self.new };
+        ensures faults { faults self.new ≡ faults self.old };
 
     // Where the blocks are told, as many are held. `put` and `get` say so again for their callers.
     ghost held_is: { (store : Self) → IfSome (blocks store) (λ blocks. held store ≡ length blocks) };

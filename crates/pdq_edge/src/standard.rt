@@ -137,6 +137,8 @@ impl<W: Write> Sink for Writing<W> {
 
     ghost written = { λ s. None };
 
+    ghost flushed = { λ s. None };
+
     ghost faults = { λ s. s.faults };
 
     fn write(&mut self, from: &[u8]) -> Result<usize, Failed> {
