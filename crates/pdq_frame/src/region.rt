@@ -1,6 +1,6 @@
 //! Rows in frames.
-ghost use Rattle.std.specs.Prelude.{◌≡◌, ◌+◌, ◌-◌, ◌*◌, ◌/◌, ◌%◌, ◌<◌, ◌≤◌, length, slice_get, slice_index_or, Some, None, IfSome, MatchOption};
-ghost use Rattle.pdq_frame.specs.Regions.{room, cleared, HasSameShape, with_row, with_words, with_head, word_of, link_of};
+ghost use Rattle.std.specs.Prelude.{◌≡◌, ◌+◌, ◌-◌, ◌*◌, ◌/◌, ◌%◌, ◌^◌, ◌<◌, ◌≤◌, length, slice_get, slice_index_or, Some, None, IfSome, MatchOption, true, false};
+ghost use Rattle.pdq_frame.specs.Regions.{room, cleared, HasSameShape, with_row, with_words, with_head, with_child, with_side, words_at, link_at, child_at, child_on, half_of, word_of, link_of, word_of_children, children_of};
 
 use crate::slot::Slot;
 use crate::stock::Stock;
@@ -9,8 +9,9 @@ use std::marker::Model;
 
 /// Frames out of a pool, with heads and rows in them. It must be spent: given back to a pool, split, or handed on.
 ///
-/// The first frames hold 512 heads each. A row of `width` words stands with the word of its link behind it, so each other frame
-/// holds 512 / (width + 1) rows.
+/// The first frames hold 512 heads each. A row of `width` words stands with one more word behind it, so each other frame holds
+/// 512 / (width + 1) rows. That word has two readings: up to 2^32 it is the row's link, as in a chain; above, it is the row's
+/// two children, as in a binary tree. A row with a link has no children, and one with children has no link.
 pub struct Region {
     stock: Stock,
     heads: u32,
@@ -21,11 +22,11 @@ pub struct Region {
 
 impl Model for Region {
     ghost use Rattle.std.specs.Prelude.{length};
-    ghost use Rattle.pdq_frame.specs.Regions.{RegionView, rows_of, heads_of, IsRegion};
+    ghost use Rattle.pdq_frame.specs.Regions.{RegionView, rows_of, heads_of, all_children, IsRegion};
 
     ghost Value = { RegionView };
 
-    ghost view = { λ a. record { frames = length a.stock; width = a.width; heads = heads_of a.heads a.stock; rows = rows_of a.heads a.width a.rows a.stock } };
+    ghost view = { λ a. record { frames = length a.stock; width = a.width; heads = heads_of a.heads a.stock; rows = rows_of a.heads a.width a.rows a.stock; children = all_children a.heads a.width a.rows a.stock } };
 
     ghost invariant = { λ a. IsRegion a.heads a.width a.rows_per_frame a.rows a.stock };
 }
@@ -50,6 +51,61 @@ fn link(word: i64) -> Option<Slot>
         Some(Slot {
             number: (word - 1) as u32,
         })
+    }
+}
+
+/// The half of a word that a child is kept as: 0 for none, else the number of the row and 1.
+fn half(child: Option<Slot>) -> u64
+    ensures value { result ≡ half_of child }
+{
+    match child {
+        None => 0,
+        Some(slot) => slot.number as u64 + 1,
+    }
+}
+
+/// The word that two children are kept as, which is above each word of a link.
+fn children_word(left: Option<Slot>, right: Option<Slot>) -> i64
+    requires left { half_of left < 2 ^ 30 }
+    requires right { half_of right < 2 ^ 30 }
+    ensures value { result ≡ word_of_children (record { left = left; right = right }) }
+{
+    (4294967297 + half(left) + 4294967296 * half(right)) as i64
+}
+
+/// The child to one side that is kept in a word: the right one, or the left.
+fn child_in(word: i64, right: bool) -> Option<Slot>
+    ensures value { result ≡ child_on (children_of word) right }
+{
+    if word <= 4294967296 {
+        return None;
+    }
+    let halves = word as u64 - 4294967297;
+    let half = if right {
+        halves / 4294967296
+    } else {
+        halves % 4294967296
+    };
+    if half == 0 {
+        None
+    } else {
+        Some(Slot {
+            number: (half - 1) as u32,
+        })
+    }
+}
+
+/// The word of the same children but for the one to this side.
+fn word_with_child(word: i64, right: bool, to: Option<Slot>) -> i64
+    requires left { half_of (child_on (children_of word) false) < 2 ^ 30 }
+    requires right { half_of (child_on (children_of word) true) < 2 ^ 30 }
+    requires to { half_of to < 2 ^ 30 }
+    ensures value { result ≡ word_of_children (with_side (children_of word) right to) }
+{
+    if right {
+        children_word(child_in(word, false), to)
+    } else {
+        children_word(to, child_in(word, true))
     }
 }
 
@@ -134,7 +190,7 @@ impl Region {
         Some(Slot { number })
     }
 
-    /// Replaces the words of a row that stands. Its link is kept.
+    /// Replaces the words of a row that stands. Its link, or its children, are kept.
     pub fn write(&mut self, slot: Slot, row: &[i64])
         requires stands { slot < length self.old.rows }
         requires width { length row.now ≡ self.old.width }
@@ -144,6 +200,18 @@ impl Region {
         let at = ((slot.number % self.rows_per_frame) * (self.width + 1)) as usize;
         let last = self.stock.frame(frame)[at + self.width as usize];
         self.stock.store(frame, at, row, last);
+    }
+
+    /// The row that was put at this place in order, counted from 0 since `reset`; None where fewer stand.
+    pub fn slot(&self, number: u32) -> Option<Slot>
+        ensures slot { MatchOption result (length self.now.rows ≤ number) (λ slot. (slot ≡ number) × (number < length self.now.rows)) }
+        ensures few { length self.now.rows ≤ 4294967295 }
+    {
+        if number < self.rows {
+            Some(Slot { number })
+        } else {
+            None
+        }
     }
 
     /// The words of a row that stands, and its link, which leads to an earlier row.
@@ -182,5 +250,34 @@ impl Region {
             &[],
             word(to),
         );
+    }
+
+    /// The words of a row that stands, and its child to one side: the right one, or the left. A child is a later row that stands.
+    pub fn branch(&self, slot: Slot, right: bool) -> (&[i64], Option<Slot>)
+        requires stands { slot < length self.now.rows }
+        ensures words { result.0.now ≡ words_at self.now slot }
+        ensures width { length result.0.now ≡ self.now.width }
+        ensures child { result.1 ≡ child_at self.now slot right }
+        ensures later { IfSome result.1 (λ other. (slot < other) × (other < length self.now.rows)) }
+    {
+        let words = self
+            .stock
+            .frame((self.heads + slot.number / self.rows_per_frame) as usize);
+        let at = ((slot.number % self.rows_per_frame) * (self.width + 1)) as usize;
+        let end = at + self.width as usize;
+        (&words[at..end], child_in(words[end], right))
+    }
+
+    /// Gives a row that stands and has no link a child to one side: a later row that stands, or none. The other child is kept.
+    pub fn set_child(&mut self, slot: Slot, right: bool, to: Option<Slot>)
+        requires stands { slot < length self.old.rows }
+        requires alone { link_at self.old slot ≡ None }
+        requires later { IfSome to (λ other. (slot < other) × (other < length self.old.rows)) }
+        ensures value { self.new ≡ with_child self.old slot right to }
+    {
+        let frame = (self.heads + slot.number / self.rows_per_frame) as usize;
+        let at = ((slot.number % self.rows_per_frame) * (self.width + 1) + self.width) as usize;
+        let last = word_with_child(self.stock.frame(frame)[at], right, to);
+        self.stock.store(frame, at, &[], last);
     }
 }
