@@ -3,3 +3,4 @@ pub mod Bytes
 pub mod Blocks
 pub mod InMemory
 pub mod NamedFiles
+pub mod Standard

@@ -1,16 +1,18 @@
 -- Worked examples, computed from the definitions.
+use Rattle.std.proofs.Math.ListN.{replicate}
 use Rattle.std.specs.Prelude.{ℕ, zero, suc, ◌≡◌, ◌+◌, List, [], ◌∷◌, ◌++◌, None, Some, true, false, refl, length, map}
 use Rattle.pdq_model.specs.declared.rows.Admit.{Admit}
+use Rattle.pdq_model.specs.declared.rows.Waiting.{Waiting}
 use Rattle.pdq_model.specs.declared.events.Event.{Event}
 use Rattle.pdq_model.specs.declared.events.Event.TheVariants.{OpenSession, CloseSession, Submit, Collect, Finish, Cancel, Onmode}
-use Rattle.pdq_model.specs.declared.events.Setting.TheVariants.{MaxPriority, TotalMemory, MaxQueries}
+use Rattle.pdq_model.specs.declared.events.Setting.TheVariants.{MaxPriority, TotalMemory, MaxQueries, MaxScans, NonPdq}
 use Rattle.pdq_model.specs.declared.events.How.TheVariants.{Done, Stopped}
 use Rattle.pdq_model.specs.declared.events.Reply.{Reply}
 use Rattle.pdq_model.specs.declared.events.Reply.TheVariants as reply
 use Rattle.pdq_model.specs.declared.events.Why.{Why}
-use Rattle.pdq_model.specs.declared.events.Why.TheVariants.{NotAllowed, NoSuchQuery, BadValue, AlreadyCancelled, PoolSize}
+use Rattle.pdq_model.specs.declared.events.Why.TheVariants.{JournalFull, NotAllowed, NoSuchQuery, BadValue, AlreadyCancelled, PoolSize, QueueFull, TooManySessions}
 use Rattle.pdq_model.specs.declared.events.Answer.{Answer}
-use Rattle.pdq_model.specs.declared.events.Answer.TheVariants.{Entered, Outside, Waits, Refuses}
+use Rattle.pdq_model.specs.declared.events.Answer.TheVariants.{Entered, Waits, Refuses}
 use Rattle.pdq_model.specs.History.{IsLegal}
 use Rattle.pdq_model.specs.declared.events.Entry.{Entry}
 use Rattle.std.proofs.Common.{arith}
@@ -67,7 +69,7 @@ abbrev pub the_end : ℕ → ℕ → ℕ → ℕ → End
 the_end step reserved scans waiting = record { step = step; reserved = reserved; scans = scans; waiting = waiting }
 
 abbrev pub usual : Configuration
-usual = configuration 100 4000 10 10
+usual = configuration 100 4000 10 10 128
 
 abbrev pub entered : Reply → List Admit → Seen
 entered r admitted = record { answer = Entered r; admitted = admitted }
@@ -111,34 +113,85 @@ second_waits_for_memory_ends = refl
 abbrev quantum_rounds_down_events : List Event
 quantum_rounds_down_events = Submit 50 1 ∷ []
 
-quantum_rounds_down : seen (configuration 100 10000 7 10) quantum_rounds_down_events ≡
+quantum_rounds_down : seen (configuration 100 10000 7 10 128) quantum_rounds_down_events ≡
     placed 1 50 0 (grant 1 3 1 ∷ [])
     ∷ []
 unfolding settle refusing_gate head_place
 quantum_rounds_down = refl
 
-quantum_rounds_down_ends : end_of (state_of (configuration 100 10000 7 10) quantum_rounds_down_events) ≡ the_end 2 3 1 0
+quantum_rounds_down_ends : end_of (state_of (configuration 100 10000 7 10 128) quantum_rounds_down_events) ≡ the_end 2 3 1 0
 unfolding settle refusing_gate head_place
 quantum_rounds_down_ends = refl
 
 -- a quantum of 357 frames, 1,428 KB, and a rest of 4 KB
-quantum_rounds_down_sizes : (frames_per_quantum (configuration 100 10000 7 10) ≡ 357) × (quantum_kb (configuration 100 10000 7 10) ≡ 1428) × (unused_kb (configuration 100 10000 7 10) ≡ 4)
+quantum_rounds_down_sizes : (frames_per_quantum (configuration 100 10000 7 10 128) ≡ 357) × (quantum_kb (configuration 100 10000 7 10 128) ≡ 1428) × (unused_kb (configuration 100 10000 7 10 128) ≡ 4)
 quantum_rounds_down_sizes = (refl, refl, refl)
 
-abbrev smallest_share_and_outside_events : List Event
-smallest_share_and_outside_events = Submit 25 8 ∷ Submit 3 2 ∷ Submit 0 4 ∷ []
+abbrev smallest_share_and_priority_zero_events : List Event
+smallest_share_and_priority_zero_events = Submit 25 8 ∷ Submit 3 2 ∷ Submit 0 4 ∷ []
 
-smallest_share_and_outside : seen (configuration 100 65536 16 1048576) smallest_share_and_outside_events ≡
+smallest_share_and_priority_zero : seen (configuration 100 65536 16 1048576 128) smallest_share_and_priority_zero_events ≡
     placed 1 25 0 (grant 1 4 8 ∷ [])
     ∷ placed 2 3 0 (grant 2 1 2 ∷ [])
-    ∷ record { answer = Outside; admitted = [] }
+    ∷ placed 3 0 0 (grant 3 1 1 ∷ [])
     ∷ []
 unfolding settle refusing_gate head_place
-smallest_share_and_outside = refl
+smallest_share_and_priority_zero = refl
 
-smallest_share_and_outside_ends : end_of (state_of (configuration 100 65536 16 1048576) smallest_share_and_outside_events) ≡ the_end 3 5 10 0
+smallest_share_and_priority_zero_ends : end_of (state_of (configuration 100 65536 16 1048576 128) smallest_share_and_priority_zero_events) ≡ the_end 4 6 11 0
 unfolding settle refusing_gate head_place
-smallest_share_and_outside_ends = refl
+smallest_share_and_priority_zero_ends = refl
+
+-- 1,000 KB are three quanta of 400 KB; a quarter of ten quanta is two
+abbrev nonpdq_memory_changes_at_once_events : List Event
+nonpdq_memory_changes_at_once_events = Submit 0 4 ∷ Onmode (NonPdq 1000) ∷ Submit 0 4 ∷ Onmode (NonPdq 127) ∷ []
+
+nonpdq_memory_changes_at_once : seen usual nonpdq_memory_changes_at_once_events ≡
+    placed 1 0 0 (grant 1 1 1 ∷ [])
+    ∷ entered (reply.Changed false) []
+    ∷ placed 2 0 0 (grant 2 2 1 ∷ [])
+    ∷ refused BadValue
+    ∷ []
+unfolding settle refusing_gate head_place
+nonpdq_memory_changes_at_once = refl
+
+nonpdq_memory_changes_at_once_ends : end_of (state_of usual nonpdq_memory_changes_at_once_events) ≡ the_end 4 3 2 0
+unfolding settle refusing_gate head_place
+nonpdq_memory_changes_at_once_ends = refl
+
+-- a head that asks for less memory than before is admitted by the change itself
+abbrev less_memory_admits_events : List Event
+less_memory_admits_events = Onmode (NonPdq 1000) ∷ Submit 90 1 ∷ Submit 0 1 ∷ Onmode (NonPdq 128) ∷ []
+
+less_memory_admits : seen usual less_memory_admits_events ≡
+    entered (reply.Changed false) []
+    ∷ placed 1 90 0 (grant 1 9 1 ∷ [])
+    ∷ placed 2 0 1 []
+    ∷ entered (reply.Changed false) (grant 2 1 1 ∷ [])
+    ∷ []
+unfolding settle refusing_gate head_place
+less_memory_admits = refl
+
+less_memory_admits_ends : end_of (state_of usual less_memory_admits_events) ≡ the_end 5 10 2 0
+unfolding settle refusing_gate head_place
+less_memory_admits_ends = refl
+
+abbrev priority_zero_goes_last_events : List Event
+priority_zero_goes_last_events = Submit 100 1 ∷ Submit 0 1 ∷ Submit 1 1 ∷ Collect 1 ∷ Finish 1 Done ∷ []
+
+priority_zero_goes_last : seen usual priority_zero_goes_last_events ≡
+    placed 1 100 0 (grant 1 10 1 ∷ [])
+    ∷ placed 2 0 1 []
+    ∷ placed 3 1 1 []
+    ∷ entered (reply.Granted 10 1 100 None) []
+    ∷ entered reply.Finished (grant 3 1 1 ∷ grant 2 1 1 ∷ [])
+    ∷ []
+unfolding settle refusing_gate head_place
+priority_zero_goes_last = refl
+
+priority_zero_goes_last_ends : end_of (state_of usual priority_zero_goes_last_events) ≡ the_end 6 2 2 0
+unfolding settle refusing_gate head_place
+priority_zero_goes_last_ends = refl
 
 abbrev priority_limit_acts_on_later_queries_events : List Event
 priority_limit_acts_on_later_queries_events = Submit 100 1 ∷ Collect 1 ∷ Finish 1 Done ∷ Onmode (MaxPriority 50) ∷ Submit 100 1 ∷ []
@@ -192,7 +245,7 @@ one_completion_admits_two_ends = refl
 abbrev scan_threads_run_out_events : List Event
 scan_threads_run_out_events = Submit 19 16 ∷ Submit 19 16 ∷ Submit 19 16 ∷ Submit 19 16 ∷ Submit 19 16 ∷ Submit 19 16 ∷ Submit 19 16 ∷ []
 
-scan_threads_run_out : seen (configuration 100 4000 10 100) scan_threads_run_out_events ≡
+scan_threads_run_out : seen (configuration 100 4000 10 100 128) scan_threads_run_out_events ≡
     placed 1 19 0 (grant 1 1 16 ∷ [])
     ∷ placed 2 19 0 (grant 2 1 16 ∷ [])
     ∷ placed 3 19 0 (grant 3 1 16 ∷ [])
@@ -204,7 +257,7 @@ scan_threads_run_out : seen (configuration 100 4000 10 100) scan_threads_run_out
 unfolding settle refusing_gate head_place
 scan_threads_run_out = refl
 
-scan_threads_run_out_ends : end_of (state_of (configuration 100 4000 10 100) scan_threads_run_out_events) ≡ the_end 8 6 96 1
+scan_threads_run_out_ends : end_of (state_of (configuration 100 4000 10 100 128) scan_threads_run_out_events) ≡ the_end 8 6 96 1
 unfolding settle refusing_gate head_place
 scan_threads_run_out_ends = refl
 
@@ -314,6 +367,91 @@ users_and_administrators_ends : end_of (state_from (begun usual) users_and_admin
 unfolding settle refusing_gate head_place
 users_and_administrators_ends = refl
 
+-- users cancel their own queries and not another's, which is refused before it is asked whether it is cancelled already; an administrator cancels any
+abbrev users_cancel_their_own_calls : List Call
+users_cancel_their_own_calls = by 2 (OpenSession false) ∷ by 3 (OpenSession false) ∷ by 2 (Submit 100 1) ∷ by 3 (Submit 50 1) ∷ by 2 (Cancel 2) ∷ by 3 (Cancel 2) ∷ by 3 (Cancel 1) ∷ by 2 (Cancel 1) ∷ by 3 (Cancel 1) ∷ by 3 (Cancel 9) ∷ by 1 (Cancel 1) ∷ by 3 (Submit 50 1) ∷ by 1 (Cancel 3) ∷ by 3 (Collect 3) ∷ by 2 (Collect 1) ∷ []
+
+users_cancel_their_own : seen_from (begun usual) users_cancel_their_own_calls ≡
+    entered (reply.Opened 2) []
+    ∷ entered (reply.Opened 3) []
+    ∷ placed 1 100 0 (grant 1 10 1 ∷ [])
+    ∷ placed 2 50 1 []
+    ∷ refused NotAllowed
+    ∷ entered reply.Withdrawn []
+    ∷ refused NotAllowed
+    ∷ entered reply.Flagged []
+    ∷ refused NotAllowed
+    ∷ refused NoSuchQuery
+    ∷ refused AlreadyCancelled
+    ∷ placed 3 50 1 []
+    ∷ entered reply.Withdrawn []
+    ∷ entered (reply.Cancelled 9) []
+    ∷ entered (reply.Granted 10 1 100 (Some 7)) []
+    ∷ []
+unfolding settle refusing_gate head_place
+users_cancel_their_own = refl
+
+-- a state whose journal can reserve no entry more
+abbrev with_full_journal : State → State
+with_full_journal s = record s { changes = 400000 }
+
+abbrev with_a_user : State
+with_a_user = next (begun usual) 2 (OpenSession false)
+
+-- of two causes of refusal the first in order is told: a change by a user, a value that is not valid, a pool of the wrong size, a full journal
+change_refused_for_the_first_cause :
+    (answer_to_change (with_full_journal with_a_user) 2 (MaxQueries 0) (record { quanta = 1; frames = 1 }) ≡ Refuses NotAllowed)
+    × (answer_to_change (with_full_journal with_a_user) 1 (MaxQueries 0) (record { quanta = 1; frames = 1 }) ≡ Refuses BadValue)
+    × (answer_to_change (with_full_journal with_a_user) 1 (MaxQueries 5) (record { quanta = 1; frames = 1 }) ≡ Refuses (PoolSize 5 200))
+    × (answer_to_change (with_full_journal with_a_user) 1 (MaxQueries 5) (record { quanta = 5; frames = 200 }) ≡ Refuses JournalFull)
+    × (answer_to_change (with_full_journal with_a_user) 1 (NonPdq 262145) (record { quanta = 1; frames = 1 }) ≡ Refuses BadValue)
+    × (answer_to_change (with_full_journal with_a_user) 1 (NonPdq 262144) (record { quanta = 1; frames = 1 }) ≡ Refuses JournalFull)
+unfolding settle refusing_gate head_place
+change_refused_for_the_first_cause = (refl, refl, refl, refl, refl, refl)
+
+abbrev waiting_query : Waiting
+waiting_query = record { id = 1; session = 1; priority = 50; frags = 1; overtaken = 0 }
+
+-- a full queue is told before a full journal, and so are 64 open sessions
+full_queue_is_told_first :
+    (decide (with_full_journal (record (begun usual) { waiting = replicate 1024 waiting_query })) 1 (Submit 50 1) ≡ Refuses QueueFull)
+    × (decide (with_full_journal (begun usual)) 1 (Submit 50 1) ≡ Refuses JournalFull)
+    × (decide (with_full_journal (record (begun usual) { sessions = replicate 64 (record { number = 1; admin = false }) })) 65 (OpenSession false) ≡ Refuses TooManySessions)
+    × (decide (with_full_journal (begun usual)) 65 (OpenSession false) ≡ Refuses JournalFull)
+unfolding settle refusing_gate head_place
+full_queue_is_told_first = (refl, refl, refl, refl)
+
+-- where several gates refuse the head, the first in order does: a change that is pending, too many queries, memory, scan threads
+abbrev gates_in_order_events : List Event
+gates_in_order_events = Submit 50 1 ∷ Submit 100 1 ∷ Collect 2 ∷ Onmode (MaxScans 5) ∷ Collect 2 ∷ []
+
+memory_is_asked_before_scans : seen (configuration 100 256 2 1 128) gates_in_order_events ≡
+    placed 1 50 0 (grant 1 1 1 ∷ [])
+    ∷ placed 2 100 1 []
+    ∷ record { answer = Waits 1; admitted = [] }
+    ∷ entered (reply.Changed true) []
+    ∷ record { answer = Waits 5; admitted = [] }
+    ∷ []
+unfolding settle refusing_gate head_place
+memory_is_asked_before_scans = refl
+
+queries_are_asked_before_memory : seen (configuration 100 128 1 1 128) gates_in_order_events ≡
+    placed 1 50 0 (grant 1 1 1 ∷ [])
+    ∷ placed 2 100 4 []
+    ∷ record { answer = Waits 4; admitted = [] }
+    ∷ entered (reply.Changed true) []
+    ∷ record { answer = Waits 5; admitted = [] }
+    ∷ []
+unfolding settle refusing_gate head_place
+queries_are_asked_before_memory = refl
+
+scans_are_asked_last : seen (configuration 100 256 2 1 128) (Submit 50 1 ∷ Submit 50 1 ∷ []) ≡
+    placed 1 50 0 (grant 1 1 1 ∷ [])
+    ∷ placed 2 50 2 []
+    ∷ []
+unfolding settle refusing_gate head_place
+scans_are_asked_last = refl
+
 pool_of_the_wrong_size : answer_to_change (begun usual) 1 (TotalMemory 8000) (record { quanta = 10; frames = 100 }) ≡ Refuses (PoolSize 10 200)
 unfolding settle refusing_gate head_place
 pool_of_the_wrong_size = refl
@@ -326,7 +464,7 @@ pool_of_the_right_size : answer_to_change (begun usual) 1 (TotalMemory 8000) (re
 unfolding settle refusing_gate head_place
 pool_of_the_right_size = refl
 
-pool_of_the_right_size_is_taken : (next_with_pool (begun usual) 1 (TotalMemory 8000) (record { quanta = 10; frames = 200 })).config ≡ configuration 100 8000 10 10
+pool_of_the_right_size_is_taken : (next_with_pool (begun usual) 1 (TotalMemory 8000) (record { quanta = 10; frames = 200 })).config ≡ configuration 100 8000 10 10 128
 unfolding settle refusing_gate head_place
 pool_of_the_right_size_is_taken = refl
 

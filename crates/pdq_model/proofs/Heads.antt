@@ -1,7 +1,7 @@
 -- The order of the waiting queries, their head, and what is left when the manager has settled.
 use Rattle.std.proofs.Common.{ℕ, zero, suc, ◌≡◌, ◌+◌, ◌*◌, ◌<◌, ◌≤◌, List, [], ◌∷◌, Option, None, Some, Bool, true, false, length, get_or, refl, sym, ap, ◌∙◌, subst, inl, inr, add-one, arith}
 use Rattle.std.proofs.Math.Nat.{mul-le-mul_left}
-use Rattle.std.specs.Prelude.{option_map, unwrap_or, ◌⊎◌, not, ◌&&◌, ◌||◌, ◌==◌, nat_lt, slice_get, if◌then◌else◌}
+use Rattle.std.specs.Prelude.{option_map, unwrap_or, ◌⊎◌, not, ◌&&◌, ◌||◌, ◌==◌, nat_le, nat_lt, slice_get, if◌then◌else◌}
 use Rattle.std.proofs.lemmas.Bool.{eqb-false, both_ways, not_from_true, not-true, not_from_false, false≢true, false_from_ne_true, cases_order}
 use Rattle.std.proofs.lemmas.Bool.Decides.{nat_tests, Decides-by_and}
 use Rattle.std.proofs.lemmas.List.{length_push, nil_from_length}
@@ -11,7 +11,7 @@ use Rattle.pdq_model.specs.declared.rows.Waiting.{Waiting}
 use Rattle.pdq_model.specs.declared.rows.Active.{Active}
 use Rattle.pdq_model.specs.declared.rows.Pending.{Pending}
 use Rattle.pdq_model.specs.Configuration.{Configuration, IsValid}
-use Rattle.pdq_model.specs.Shares.{quanta_for, scans_for}
+use Rattle.pdq_model.specs.Shares.{quanta_by_memory, quanta_by_priority, quanta_for, scans_for}
 use Rattle.pdq_model.specs.State.{State}
 use Rattle.pdq_model.specs.Gates.{CanBeAdmitted}
 use Rattle.pdq_model.specs.Settling.{admit, admitted_row, admit_head, admit_heads, take_if_idle, take_pending, settle, with_pending, IsSettled, Admissions}
@@ -223,9 +223,19 @@ no_change_left s idle = go s.pending refl idle
 
 -- the shares of one query are never more than there is
 pub quanta_within : (c : Configuration) (e : ℕ) → IsValid c → e ≤ 100 → quanta_for c e ≤ c.max_queries
-quanta_within c e valid percent =
-    let product : c.max_queries * e ≤ c.max_queries * 100 = mul-le-mul_left c.max_queries percent in
-    omega (arith, product, valid.some_query)
+quanta_within c e valid percent = go (nat_le 1 e)
+  where
+    by_priority : quanta_by_priority c e ≤ c.max_queries
+    by_priority =
+        let product : c.max_queries * e ≤ c.max_queries * 100 = mul-le-mul_left c.max_queries percent in
+        omega (arith, product, valid.some_query)
+
+    by_memory : quanta_by_memory c ≤ c.max_queries
+    by_memory = omega (arith, valid.some_query)
+
+    go : (b : Bool) → (if b then quanta_by_priority c e else quanta_by_memory c) ≤ c.max_queries
+    go true = by_priority
+    go false = by_memory
 
 pub scans_within : (c : Configuration) (e f : ℕ) → IsValid c → e ≤ 100 → scans_for c e f ≤ c.max_scans
 scans_within c e f valid percent =

@@ -15,7 +15,7 @@ use Rattle.pdq_model.specs.declared.events.Event.{Event}
 use Rattle.pdq_model.specs.declared.events.Event.TheVariants.{OpenSession, CloseSession, Submit, Collect, Finish, Cancel, Onmode}
 use Rattle.pdq_model.specs.declared.events.Entry.{Entry}
 use Rattle.pdq_model.specs.declared.events.Answer.{Answer}
-use Rattle.pdq_model.specs.declared.events.Answer.TheVariants.{Entered, Outside, Waits, Refuses}
+use Rattle.pdq_model.specs.declared.events.Answer.TheVariants.{Entered, Waits, Refuses}
 use Rattle.pdq_model.specs.Configuration.{Configuration, IsValid}
 use Rattle.pdq_model.specs.State.{State, opening_state}
 use Rattle.pdq_model.specs.Gates.{waiting_place}
@@ -59,7 +59,6 @@ opening_settled c valid = record {
 
 settled_after : (s : State) (who : ℕ) (event : Event) (answer : Answer) → IsSettled s → IsSound (after_answer s who event answer) → IsSettled (after_answer s who event answer)
 settled_after s who event (Entered r) settled sound = settled_when_sound (counted s who event) sound
-settled_after s who event Outside settled sound = settled
 settled_after s who event (Waits gate) settled sound = settled
 settled_after s who event (Refuses why) settled sound = settled
 
@@ -88,7 +87,7 @@ active_after_admissions s t (no_more r) = sym (append-nil r.active)
 active_after_admissions s t (first_then r m u one rest) =
     active_after_admissions m u rest ∙ ap (λ (x : State). x.active ++ rows_admitted m u rest) one.admitted ∙ append_assoc r.active (admitted_row r.config one.query ∷ []) (rows_admitted m u rest)
 
-active_taken : (s : State) (o : Option Pending) → (take_if_idle s o).active ≡ s.active
+pub active_taken : (s : State) (o : Option Pending) → (take_if_idle s o).active ≡ s.active
 active_taken s None = refl
 active_taken s (Some p) = go (length s.active == 0)
   where
@@ -106,7 +105,6 @@ admits_heads s who event accepted = record { heads = heads; told = told }
   where
     go : (answer : Answer) → is_entered answer ≡ true → Admissions (take_pending (counted s who event)) (after_answer s who event answer)
     go (Entered r) e = settling_admits (counted s who event)
-    go Outside e = absurd (false≢true e)
     go (Waits gate) e = absurd (false≢true e)
     go (Refuses why) e = absurd (false≢true e)
 
@@ -121,7 +119,7 @@ pub only_heads_are_admitted : OnlyHeadsAreAdmitted
 only_heads_are_admitted c history valid legal = admits_heads (replay c history)
 
 -- settling makes no entry
-entries_taken : (s : State) (o : Option Pending) → (take_if_idle s o).entries ≡ s.entries
+pub entries_taken : (s : State) (o : Option Pending) → (take_if_idle s o).entries ≡ s.entries
 entries_taken s None = refl
 entries_taken s (Some p) = go (length s.active == 0)
   where
@@ -135,7 +133,6 @@ entries_settled s = (grown_by_admissions (take_pending s) (settle s) (settling_a
 -- an entry is one
 pub entries_after : (s : State) (who : ℕ) (event : Event) (answer : Answer) → is_entered answer ≡ true → (after_answer s who event answer).entries ≡ s.entries + 1
 entries_after s who event (Entered r) e = entries_settled (counted s who event)
-entries_after s who event Outside e = absurd (false≢true e)
 entries_after s who event (Waits gate) e = absurd (false≢true e)
 entries_after s who event (Refuses why) e = absurd (false≢true e)
 

@@ -3,6 +3,12 @@ pub mod Soundness
 pub mod Heads
 pub mod Histories
 pub mod Numbers
+pub mod Weights
 pub mod Owners
+pub mod Fewer
+pub mod Staying
+pub mod Open
+pub mod Given
+pub mod Marks
 pub mod WrittenOrder
 pub mod Examples

@@ -14,10 +14,10 @@ use Rattle.pdq_model.specs.declared.events.Event.{Event}
 use Rattle.pdq_model.specs.declared.events.Event.TheVariants.{OpenSession, CloseSession, Submit, Collect, Finish, Cancel, Onmode}
 use Rattle.pdq_model.specs.declared.events.How.{How}
 use Rattle.pdq_model.specs.declared.events.Setting.{Setting}
-use Rattle.pdq_model.specs.declared.events.Setting.TheVariants.{MaxPriority, TotalMemory, MaxQueries, MaxScans}
+use Rattle.pdq_model.specs.declared.events.Setting.TheVariants.{MaxPriority, TotalMemory, MaxQueries, MaxScans, NonPdq}
 use Rattle.pdq_model.specs.declared.events.Entry.{Entry}
 use Rattle.pdq_model.specs.declared.events.Answer.{Answer}
-use Rattle.pdq_model.specs.declared.events.Answer.TheVariants.{Entered, Outside, Waits, Refuses}
+use Rattle.pdq_model.specs.declared.events.Answer.TheVariants.{Entered, Waits, Refuses}
 use Rattle.pdq_model.specs.Configuration.{Configuration}
 use Rattle.pdq_model.specs.State.{State, opening_state, next_session}
 use Rattle.pdq_model.specs.Order.{is_before, is_favoured, head_place}
@@ -25,7 +25,7 @@ use Rattle.pdq_model.specs.Settling.{overtaken_by, admit, admitted_row, take_if_
 use Rattle.pdq_model.specs.Settling.Admissions.{no_more, first_then}
 use Rattle.pdq_model.specs.Step.{changed, next, decide, after_answer, submitted_row, without, set_by, changed_at, collected, flagged_at, withdrawn_row, withdraw, cancelled, active_place, withdrawn_place, session_place}
 use Rattle.pdq_model.specs.History.{IsLegal, replay}
-use Rattle.pdq_model.specs.Laws.{counted, queries_numbered, sessions_numbered, HasOwnNumbers, NumbersAreUnique, HasOneHead, HeadsAreFirst}
+use Rattle.pdq_model.specs.Laws.{counted, queries_numbered, sessions_numbered, HasOwnNumbers, NumbersAreUnique, HasOneHead, HeadsAreFirst, GoBeforeOthers, AdmittedGoFirst}
 use Rattle.pdq_model.proofs.Lists.{sum_by_without, sum_by_changed, row_at, remove_past}
 use Rattle.pdq_model.proofs.Heads.{settling_admits, before_by, none_ahead, some_head}
 use Rattle.pdq_model.proofs.Histories.{after_history}
@@ -103,7 +103,7 @@ fewer_settled : (s : State) → IsFewer s (settle s)
 fewer_settled s = fewer_trans s (take_pending s) (settle s) (fewer_taken s s.pending) (fewer_by_admissions (take_pending s) (settle s) (settling_admits s))
 
 -- a row that is left out, and one that is changed but for its number
-left_out : {X : Type 0} (f : X → ℕ) (xs : List X) (o : Option ℕ) → sum_by f (without xs o) ≤ sum_by f xs
+pub left_out : {X : Type 0} (f : X → ℕ) (xs : List X) (o : Option ℕ) → sum_by f (without xs o) ≤ sum_by f xs
 left_out f xs None = omega arith
 left_out f xs (Some k) = go (cases_lt k (length xs))
   where
@@ -214,6 +214,7 @@ fewer_changed s who (MaxPriority v) = record { queries = λ id. omega arith; ses
 fewer_changed s who (TotalMemory v) = record { queries = λ id. omega arith; sessions = λ number. omega arith; submitted = omega arith; opened = omega arith }
 fewer_changed s who (MaxQueries v) = record { queries = λ id. omega arith; sessions = λ number. omega arith; submitted = omega arith; opened = omega arith }
 fewer_changed s who (MaxScans v) = record { queries = λ id. omega arith; sessions = λ number. omega arith; submitted = omega arith; opened = omega arith }
+fewer_changed s who (NonPdq v) = record { queries = λ id. omega arith; sessions = λ number. omega arith; submitted = omega arith; opened = omega arith }
 
 own_counted : (s : State) (who : ℕ) (event : Event) → HasOwnNumbers s → HasOwnNumbers (counted s who event)
 own_counted s who (OpenSession admin) own = own_opened s who admin own
@@ -226,7 +227,6 @@ own_counted s who (Onmode setting) own = own_from_fewer s (counted s who (Onmode
 
 own_after : (s : State) (who : ℕ) (event : Event) (answer : Answer) → HasOwnNumbers s → HasOwnNumbers (after_answer s who event answer)
 own_after s who event (Entered r) own = own_from_fewer (counted s who event) (settle (counted s who event)) (own_counted s who event own) (fewer_settled (counted s who event))
-own_after s who event Outside own = own
 own_after s who event (Waits gate) own = own
 own_after s who event (Refuses why) own = own
 
@@ -277,6 +277,20 @@ one_head s own = record {
   head = λ some. let has = some_head s.waiting (not_empty s.waiting some) in (has.place, has.row, has.head, has.there);
   first = first_of_own s own;
 }
+
+-- admissions take the first of those that wait, one after another
+go_before_others : (s t : State) (heads : Admissions s t) → HasOwnNumbers s → GoBeforeOthers s t heads
+go_before_others s t (no_more r) own = tt
+go_before_others s t (first_then r m u one rest) own = (
+  (λ other v at differ. first_of_own r own one.place other one.query v one.head one.there at differ),
+  go_before_others m u rest (subst HasOwnNumbers (sym one.admitted) (own_from_fewer r (admit r one.place one.query) own (fewer_admitted r one.place one.query one.there))),
+)
+
+pub admitted_go_first : AdmittedGoFirst
+admitted_go_first c history valid legal who event heads =
+    let s = replay c history in
+    let own = own_counted s who event (own_replay c history legal) in
+    go_before_others (take_pending (counted s who event)) (next s who event) heads (own_from_fewer (counted s who event) (take_pending (counted s who event)) own (fewer_taken (counted s who event) (counted s who event).pending))
 
 pub heads_are_first : HeadsAreFirst
 heads_are_first c history valid legal = one_head (replay c history) (own_replay c history legal)

@@ -21,14 +21,14 @@ use Rattle.pdq_model.specs.Gates.{waiting_place, refusing_gate, CanBeAdmitted, r
 use Rattle.pdq_model.specs.Settling.{overtaken_by, overtake, admit, admitted_row, admit_if, admit_head, admit_heads, admit_all, take_if_idle, take_pending, settle, with_pending, IsAdmission}
 use Rattle.pdq_model.specs.Soundness.{IsSound, IsWaitingRow}
 use Rattle.pdq_model.specs.declared.events.Setting.{Setting}
-use Rattle.pdq_model.specs.declared.events.Setting.TheVariants.{MaxPriority, TotalMemory, MaxQueries, MaxScans}
+use Rattle.pdq_model.specs.declared.events.Setting.TheVariants.{MaxPriority, TotalMemory, MaxQueries, MaxScans, NonPdq}
 use Rattle.pdq_model.specs.declared.events.How.{How}
 use Rattle.pdq_model.specs.declared.events.Reply.{Reply}
 use Rattle.pdq_model.specs.declared.events.Reply.TheVariants as reply
 use Rattle.pdq_model.specs.declared.events.Why.{Why}
 use Rattle.pdq_model.specs.declared.events.Why.TheVariants as why
 use Rattle.pdq_model.specs.declared.events.Answer.{Answer}
-use Rattle.pdq_model.specs.declared.events.Answer.TheVariants.{Entered, Outside, Waits, Refuses}
+use Rattle.pdq_model.specs.declared.events.Answer.TheVariants.{Entered, Waits, Refuses}
 use Rattle.pdq_model.specs.declared.events.Event.{Event}
 use Rattle.pdq_model.specs.declared.events.Event.TheVariants.{OpenSession, CloseSession, Submit, Collect, Finish, Cancel, Onmode}
 use Rattle.pdq_model.specs.Step.{changed, submitted_row, active_place, withdrawn_place, session_place, without, set_by, changed_at, collected, flagged_at, withdrawn_row, withdraw, cancelled, active_row, owner_of, first_some, is_flagged, is_withdrawn, is_waiting, may_cancel, answer_to_open, answer_to_submit, answer_to_collect, answer_to_cancel, answer_to_change, is_entered, after_answer, next, next_with_pool, is_full_for, placed_reply, changed_reply, is_open, is_admin, withdrawn_of, needs_pool, has_size, pool_size_of, PoolSize, target_of, pending_or_present}
@@ -461,16 +461,37 @@ valid_from_test c e = record {
   memory = grind (arith, nat_tests);
   some_scan = grind (arith, nat_tests);
   scans = grind (arith, nat_tests);
+  some_memory = grind (arith, nat_tests);
+  nonpdq = grind (arith, nat_tests);
 }
 
 relimited : (c : Configuration) (v : ℕ) → IsValid c → v ≤ 100 → IsValid (record c { max_priority = v })
-relimited c v valid percent = record { priority = percent; some_query = valid.some_query; queries = valid.queries; enough = valid.enough; memory = valid.memory; some_scan = valid.some_scan; scans = valid.scans }
+relimited c v valid percent = record { priority = percent; some_query = valid.some_query; queries = valid.queries; enough = valid.enough; memory = valid.memory; some_scan = valid.some_scan; scans = valid.scans; some_memory = valid.some_memory; nonpdq = valid.nonpdq }
 
 -- a change of MAX_PDQPRIORITY
 sound_limited : (s : State) (v : ℕ) → IsSound s → v ≤ 100 → reserved_entries s + 1 ≤ 400000 → IsSound (record s { config = record s.config { max_priority = v }; changes = s.changes + 1; entries = s.entries + 1 })
 sound_limited s v sound percent room = record {
   valid = relimited s.config v sound.valid percent;
   pending = λ p asked. relimited (with_pending s.config p) v (sound.pending p asked) percent;
+  quanta = sound.quanta;
+  scans = sound.scans;
+  few_active = sound.few_active;
+  few_waiting = sound.few_waiting;
+  few_sessions = sound.few_sessions;
+  waiting = sound.waiting;
+  queries = sound.queries;
+  journal = omega (arith, sound.journal);
+  reserved = omega (arith, room);
+}
+
+resized : (c : Configuration) (v : ℕ) → IsValid c → 128 ≤ v → v ≤ 262144 → IsValid (record c { nonpdq_kb = v })
+resized c v valid least most = record { priority = valid.priority; some_query = valid.some_query; queries = valid.queries; enough = valid.enough; memory = valid.memory; some_scan = valid.some_scan; scans = valid.scans; some_memory = least; nonpdq = most }
+
+-- a change of DS_NONPDQ_QUERY_MEM
+sound_resized : (s : State) (v : ℕ) → IsSound s → 128 ≤ v → v ≤ 262144 → reserved_entries s + 1 ≤ 400000 → IsSound (record s { config = record s.config { nonpdq_kb = v }; changes = s.changes + 1; entries = s.entries + 1 })
+sound_resized s v sound least most room = record {
+  valid = resized s.config v sound.valid least most;
+  pending = λ p asked. resized (with_pending s.config p) v (sound.pending p asked) least most;
   quanta = sound.quanta;
   scans = sound.scans;
   few_active = sound.few_active;
@@ -500,14 +521,14 @@ sound_asked s p sound valid room = record {
 
 pub sound_changed : (s : State) (who : ℕ) (setting : Setting) → IsSound s → IsValid (target_of s setting) → reserved_entries s + 1 ≤ 400000 → IsSound (record (changed s who (Onmode setting)) { entries = s.entries + 1 })
 sound_changed s who (MaxPriority v) sound valid room = sound_limited s v sound valid.priority room
-sound_changed s who (TotalMemory v) sound valid room = sound_asked s (record { total_kb = v; max_queries = (pending_or_present s).max_queries; max_scans = (pending_or_present s).max_scans }) sound (record { priority = sound.valid.priority; some_query = valid.some_query; queries = valid.queries; enough = valid.enough; memory = valid.memory; some_scan = valid.some_scan; scans = valid.scans }) room
-sound_changed s who (MaxQueries v) sound valid room = sound_asked s (record { total_kb = (pending_or_present s).total_kb; max_queries = v; max_scans = (pending_or_present s).max_scans }) sound (record { priority = sound.valid.priority; some_query = valid.some_query; queries = valid.queries; enough = valid.enough; memory = valid.memory; some_scan = valid.some_scan; scans = valid.scans }) room
-sound_changed s who (MaxScans v) sound valid room = sound_asked s (record { total_kb = (pending_or_present s).total_kb; max_queries = (pending_or_present s).max_queries; max_scans = v }) sound (record { priority = sound.valid.priority; some_query = valid.some_query; queries = valid.queries; enough = valid.enough; memory = valid.memory; some_scan = valid.some_scan; scans = valid.scans }) room
+sound_changed s who (NonPdq v) sound valid room = sound_resized s v sound valid.some_memory valid.nonpdq room
+sound_changed s who (TotalMemory v) sound valid room = sound_asked s (record { total_kb = v; max_queries = (pending_or_present s).max_queries; max_scans = (pending_or_present s).max_scans }) sound (record { priority = sound.valid.priority; some_query = valid.some_query; queries = valid.queries; enough = valid.enough; memory = valid.memory; some_scan = valid.some_scan; scans = valid.scans; some_memory = sound.valid.some_memory; nonpdq = sound.valid.nonpdq }) room
+sound_changed s who (MaxQueries v) sound valid room = sound_asked s (record { total_kb = (pending_or_present s).total_kb; max_queries = v; max_scans = (pending_or_present s).max_scans }) sound (record { priority = sound.valid.priority; some_query = valid.some_query; queries = valid.queries; enough = valid.enough; memory = valid.memory; some_scan = valid.some_scan; scans = valid.scans; some_memory = sound.valid.some_memory; nonpdq = sound.valid.nonpdq }) room
+sound_changed s who (MaxScans v) sound valid room = sound_asked s (record { total_kb = (pending_or_present s).total_kb; max_queries = (pending_or_present s).max_queries; max_scans = v }) sound (record { priority = sound.valid.priority; some_query = valid.some_query; queries = valid.queries; enough = valid.enough; memory = valid.memory; some_scan = valid.some_scan; scans = valid.scans; some_memory = sound.valid.some_memory; nonpdq = sound.valid.nonpdq }) room
 
 -- an event that is not entered changes nothing
 sound_after : (s : State) (who : ℕ) (event : Event) (answer : Answer) → IsSound s → (is_entered answer ≡ true → IsSound (record (changed s who event) { entries = s.entries + 1 })) → IsSound (after_answer s who event answer)
 sound_after s who event (Entered r) sound step = sound_settled (record (changed s who event) { entries = s.entries + 1 }) (step refl)
-sound_after s who event Outside sound step = sound
 sound_after s who event (Waits gate) sound step = sound
 sound_after s who event (Refuses reason) sound step = sound
 
@@ -526,16 +547,10 @@ next_open s who admin sound = sound_after s who (OpenSession admin) (answer_to_o
     let passed = passed_both (nat_le 64 (length s.sessions)) (is_full_for s 2) why.TooManySessions why.JournalFull (reply.Opened (next_session s)) e in
     sound_opened s who admin sound (leb-false 64 (length s.sessions) passed.0) (ltb-false 400000 (reserved_entries s + 2) passed.1))
 
-abbrev submitted_if : Bool → Bool → Bool → Reply → Bool
-submitted_if outside a b r = is_entered (if outside then Outside else if a then Refuses why.QueueFull else if b then Refuses why.JournalFull else Entered r)
-
-passed_submit : (outside a b : Bool) (r : Reply) → submitted_if outside a b r ≡ true → (a ≡ false) × (b ≡ false)
-passed_submit true a b r e = absurd (false≢true e)
-passed_submit false a b r e = passed_both a b why.QueueFull why.JournalFull r e
-
+-- a query is submitted where fewer than 1,024 wait and four entries can be reserved
 next_submit : (s : State) (who p f : ℕ) → IsSound s → p ≤ 100 → IsSound (next s who (Submit p f))
 next_submit s who p f sound percent = sound_after s who (Submit p f) (answer_to_submit s who p f) sound (λ e.
-    let passed = passed_submit (effective_priority p s.config == 0) (nat_le 1024 (length s.waiting)) (is_full_for s 4) (placed_reply s who p f) e in
+    let passed = passed_both (nat_le 1024 (length s.waiting)) (is_full_for s 4) why.QueueFull why.JournalFull (placed_reply s who p f) e in
     sound_submitted s who p f sound percent (leb-false 1024 (length s.waiting) passed.0) (ltb-false 400000 (reserved_entries s + 4) passed.1))
 
 next_close : (s : State) (who : ℕ) → IsSound s → IsTrue (is_open s who) → IsSound (next s who CloseSession)

@@ -92,6 +92,15 @@ pub record AdmitsHeads (s : State) (who : ℕ) (event : Event) : Type 0 where
   pub heads : Admissions (take_pending (counted s who event)) (next s who event)
   pub told : admitted_after s who event [] ≡ map admit_of (rows_admitted (take_pending (counted s who event)) (next s who event) heads)
 
+-- each query that is admitted in turn is then before every other that waits
+abbrev pub GoBeforeOthers : (s t : State) → Admissions s t → Type 0
+GoBeforeOthers s t (no_more r) = ⊤
+GoBeforeOthers s t (first_then r m u one rest) = ((other : ℕ) (v : Waiting) → slice_get r.waiting other ≡ Some v → other ≢ one.place → IsBefore one.query v) × GoBeforeOthers m u rest
+
+-- what an entry admits heads the written order when it is admitted
+abbrev pub AdmittedGoFirst : Type 0
+AdmittedGoFirst = HoldsAlways (λ s. (who : ℕ) (event : Event) (heads : Admissions (take_pending (counted s who event)) (next s who event)) → GoBeforeOthers (take_pending (counted s who event)) (next s who event) heads)
+
 abbrev pub OnlyHeadsAreAdmitted : Type 0
 OnlyHeadsAreAdmitted = HoldsAlways (λ s. (who : ℕ) (event : Event) → IsTrue (is_entered (decide s who event)) → AdmitsHeads s who event)
 

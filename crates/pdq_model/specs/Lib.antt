@@ -9,3 +9,5 @@ pub mod History
 pub mod Soundness
 pub mod StatusView
 pub mod Laws
+pub mod Kept
+pub mod Given

@@ -57,7 +57,7 @@ admit_all s = admit_heads (length s.waiting) s
 
 -- the configuration with what a change asks for
 abbrev pub with_pending : Configuration → Pending → Configuration
-with_pending c p = configuration c.max_priority p.total_kb p.max_queries p.max_scans
+with_pending c p = configuration c.max_priority p.total_kb p.max_queries p.max_scans c.nonpdq_kb
 
 -- a change that waits is taken where no query is active
 abbrev pub take_if_idle : State → Option Pending → State

@@ -7,14 +7,14 @@ use Rattle.pdq_model.specs.declared.rows.Active.{Active}
 use Rattle.pdq_model.specs.declared.rows.Withdrawn.{Withdrawn}
 use Rattle.pdq_model.specs.declared.rows.Admit.{Admit}
 use Rattle.pdq_model.specs.declared.events.Setting.{Setting}
-use Rattle.pdq_model.specs.declared.events.Setting.TheVariants.{MaxPriority, TotalMemory, MaxQueries, MaxScans}
+use Rattle.pdq_model.specs.declared.events.Setting.TheVariants.{MaxPriority, TotalMemory, MaxQueries, MaxScans, NonPdq}
 use Rattle.pdq_model.specs.declared.events.Event.{Event}
 use Rattle.pdq_model.specs.declared.events.Event.TheVariants.{OpenSession, CloseSession, Submit, Collect, Finish, Cancel, Onmode}
 use Rattle.pdq_model.specs.declared.events.Reply.{Reply}
 use Rattle.pdq_model.specs.declared.events.Reply.TheVariants as reply
 use Rattle.pdq_model.specs.declared.events.Why.TheVariants as why
 use Rattle.pdq_model.specs.declared.events.Answer.{Answer}
-use Rattle.pdq_model.specs.declared.events.Answer.TheVariants.{Entered, Outside, Waits, Refuses}
+use Rattle.pdq_model.specs.declared.events.Answer.TheVariants.{Entered, Waits, Refuses}
 use Rattle.pdq_model.specs.Configuration.{Configuration, is_valid, frames_per_quantum}
 use Rattle.pdq_model.specs.Shares.{effective_priority}
 use Rattle.pdq_model.specs.State.{State, next_session, next_query, reserved_entries}
@@ -86,6 +86,7 @@ target_of s (MaxPriority v) = record (pending_or_present s) { max_priority = v }
 target_of s (TotalMemory v) = record (pending_or_present s) { total_kb = v }
 target_of s (MaxQueries v) = record (pending_or_present s) { max_queries = v }
 target_of s (MaxScans v) = record (pending_or_present s) { max_scans = v }
+target_of s (NonPdq v) = record (pending_or_present s) { nonpdq_kb = v }
 
 -- the two numbers of a pool
 pub record PoolSize : Type 0 where
@@ -102,13 +103,15 @@ needs_pool (MaxPriority v) = false
 needs_pool (TotalMemory v) = true
 needs_pool (MaxQueries v) = true
 needs_pool (MaxScans v) = false
+needs_pool (NonPdq v) = false
 
--- MAX_PDQPRIORITY changes at once, the others are pending
+-- MAX_PDQPRIORITY and DS_NONPDQ_QUERY_MEM change at once, the others are pending
 abbrev pub changed_by : State → Setting → State
 changed_by s (MaxPriority v) = record s { config = record s.config { max_priority = v } }
 changed_by s (TotalMemory v) = record s { pending = Some (record { total_kb = v; max_queries = (pending_or_present s).max_queries; max_scans = (pending_or_present s).max_scans }) }
 changed_by s (MaxQueries v) = record s { pending = Some (record { total_kb = (pending_or_present s).total_kb; max_queries = v; max_scans = (pending_or_present s).max_scans }) }
 changed_by s (MaxScans v) = record s { pending = Some (record { total_kb = (pending_or_present s).total_kb; max_queries = (pending_or_present s).max_queries; max_scans = v }) }
+changed_by s (NonPdq v) = record s { config = record s.config { nonpdq_kb = v } }
 
 abbrev pub submitted_row : State → ℕ → ℕ → ℕ → Waiting
 submitted_row s who p f = record { id = next_query s; session = who; priority = effective_priority p s.config; frags = f; overtaken = 0 }
@@ -160,8 +163,7 @@ placed_reply s who p f = reply.Placed (next_query s) (effective_priority p s.con
 
 abbrev pub answer_to_submit : State → ℕ → ℕ → ℕ → Answer
 answer_to_submit s who p f =
-    if effective_priority p s.config == 0 then Outside
-    else if nat_le most_waiting (length s.waiting) then Refuses why.QueueFull
+    if nat_le most_waiting (length s.waiting) then Refuses why.QueueFull
     else if is_full_for s 4 then Refuses why.JournalFull
     else Entered (placed_reply s who p f)
 
@@ -211,6 +213,7 @@ can_wait (MaxPriority v) = false
 can_wait (TotalMemory v) = true
 can_wait (MaxQueries v) = true
 can_wait (MaxScans v) = true
+can_wait (NonPdq v) = false
 
 abbrev pub changed_reply : State → ℕ → Setting → Reply
 changed_reply s by setting = reply.Changed (can_wait setting && is_some (entered s by (Onmode setting)).pending)

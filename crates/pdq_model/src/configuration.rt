@@ -3,13 +3,14 @@ ghost use Rattle.std.specs.Prelude.{◌≡◌, ◌↔◌, ◌≤◌, IsSome, IfS
 
 use std::marker::Model;
 
-/// A valid configuration: MAX_PDQPRIORITY (percent), DS_TOTAL_MEMORY (KB), DS_MAX_QUERIES and DS_MAX_SCANS.
+/// A valid configuration: MAX_PDQPRIORITY (percent), DS_TOTAL_MEMORY (KB), DS_MAX_QUERIES, DS_MAX_SCANS and DS_NONPDQ_QUERY_MEM (KB).
 #[derive(Clone, Copy, Debug)]
 pub struct Config {
     max_priority: u32,
     total_kb: u32,
     max_queries: u32,
     max_scans: u32,
+    nonpdq_kb: u32,
 }
 
 impl Model for Config {
@@ -17,22 +18,23 @@ impl Model for Config {
 
     ghost Value = { Configuration };
 
-    ghost view = { λ c. record { max_priority = c.max_priority; total_kb = c.total_kb; max_queries = c.max_queries; max_scans = c.max_scans } };
+    ghost view = { λ c. record { max_priority = c.max_priority; total_kb = c.total_kb; max_queries = c.max_queries; max_scans = c.max_scans; nonpdq_kb = c.nonpdq_kb } };
 
-    ghost invariant = { λ c. IsValid (record { max_priority = c.max_priority; total_kb = c.total_kb; max_queries = c.max_queries; max_scans = c.max_scans }) };
+    ghost invariant = { λ c. IsValid (record { max_priority = c.max_priority; total_kb = c.total_kb; max_queries = c.max_queries; max_scans = c.max_scans; nonpdq_kb = c.nonpdq_kb }) };
 
-    ghost inverse = { λ v. record { max_priority = v.max_priority; total_kb = v.total_kb; max_queries = v.max_queries; max_scans = v.max_scans } };
+    ghost inverse = { λ v. record { max_priority = v.max_priority; total_kb = v.total_kb; max_queries = v.max_queries; max_scans = v.max_scans; nonpdq_kb = v.nonpdq_kb } };
 }
 
 impl Config {
     ghost use Rattle.pdq_model.specs.Configuration.{IsValid, configuration, frames_per_quantum};
-    ghost use Rattle.pdq_model.specs.Shares.{effective_priority, quanta_for, scans_for};
+    ghost use Rattle.pdq_model.specs.Shares.{effective_priority, quanta_by_memory, quanta_for, scans_for};
 
-    /// A configuration of these four numbers, in the order MAX_PDQPRIORITY, DS_TOTAL_MEMORY in KB, DS_MAX_QUERIES, DS_MAX_SCANS; None exactly
-    /// where they are not valid. The range of the first is that of the Informix guide, the other bounds are our own.
-    pub fn check(m: u32, t: u32, q: u32, s: u32) -> Option<Config>
-        ensures valid { IsSome result ↔ IsValid (configuration m t q s) }
-        ensures value { IfSome result (λ c. c ≡ configuration m t q s) }
+    /// A configuration of these five numbers, in the order MAX_PDQPRIORITY, DS_TOTAL_MEMORY in KB, DS_MAX_QUERIES, DS_MAX_SCANS,
+    /// DS_NONPDQ_QUERY_MEM in KB; None exactly where they are not valid. The range of the first is that of the Informix guide, the other
+    /// bounds are our own.
+    pub fn check(m: u32, t: u32, q: u32, s: u32, n: u32) -> Option<Config>
+        ensures valid { IsSome result ↔ IsValid (configuration m t q s n) }
+        ensures value { IfSome result (λ c. c ≡ configuration m t q s n) }
     {
         let is_valid = m <= 100
             && 1 <= q
@@ -40,13 +42,16 @@ impl Config {
             && 128 * q <= t
             && t <= 1_048_576
             && 1 <= s
-            && s <= 1_048_576;
+            && s <= 1_048_576
+            && 128 <= n
+            && n <= 262_144;
         if is_valid {
             Some(Config {
                 max_priority: m,
                 total_kb: t,
                 max_queries: q,
                 max_scans: s,
+                nonpdq_kb: n,
             })
         } else {
             None
@@ -81,6 +86,13 @@ impl Config {
         self.max_scans
     }
 
+    /// DS_NONPDQ_QUERY_MEM, in KB: the memory that a query of effective priority 0 asks for.
+    pub fn nonpdq_kb(&self) -> u32
+        ensures value { result ≡ self.now.nonpdq_kb }
+    {
+        self.nonpdq_kb
+    }
+
     /// Frames of 4 KB in a quantum.
     pub fn frames_per_quantum(&self) -> u32
         ensures value { result ≡ frames_per_quantum self.now }
@@ -97,12 +109,25 @@ impl Config {
         priority * self.max_priority / 100
     }
 
-    /// The quanta of a query of this effective priority.
+    /// The quanta of a query of this effective priority: its percentage of them, rounded down; at priority 0 as many as DS_NONPDQ_QUERY_MEM
+    /// asks for, rounded up, and at most a quarter of them; in each case at least one. The rounding and the quarter are our own.
     pub fn quanta_for(&self, priority: u32) -> u32
         requires percent { priority ≤ 100 }
         ensures value { result ≡ quanta_for self.now priority }
     {
-        (self.max_queries * priority / 100).max(1)
+        if priority >= 1 {
+            (self.max_queries * priority / 100).max(1)
+        } else {
+            self.quanta_by_memory()
+        }
+    }
+
+    // The quanta of a query of effective priority 0.
+    fn quanta_by_memory(&self) -> u32
+        ensures value { result ≡ quanta_by_memory self.now }
+    {
+        let asked = self.nonpdq_kb.div_ceil(4 * self.frames_per_quantum());
+        (self.max_queries / 4).min(asked).max(1)
     }
 
     /// The scan threads of a query of this effective priority whose widest table has so many fragments.

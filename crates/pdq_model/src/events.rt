@@ -8,7 +8,7 @@ pub enum How {
     Failed,
 }
 
-/// A change of one parameter of the configuration, as onmode makes it: -D, -M, -Q, -S.
+/// A change of one parameter of the configuration, as onmode makes it: -D, -M, -Q, -S, -N.
 #[derive(Clone, Copy, Debug, PartialEq, Eq)]
 pub enum Setting {
     /// MAX_PDQPRIORITY, in percent; for later submissions alone.
@@ -19,6 +19,8 @@ pub enum Setting {
     MaxQueries(u32),
     /// DS_MAX_SCANS.
     MaxScans(u32),
+    /// DS_NONPDQ_QUERY_MEM, in KB; at once, for later admissions.
+    NonPdq(u32),
 }
 
 /// What a caller asks of the manager.
@@ -89,8 +91,6 @@ pub enum Why {
 #[derive(Clone, Copy, Debug, PartialEq, Eq)]
 pub enum Answer {
     Entered(Reply),
-    /// The query has effective priority 0 and runs outside the manager.
-    Outside,
     /// The query still waits, at this gate.
     Waits(u32),
     Refuses(Why),

@@ -1,6 +1,8 @@
 //! The laws of the manager, over every legal history from a valid configuration. Each stands on a function with nothing to do.
 
-ghost use Rattle.pdq_model.specs.Laws.{LimitsAreKept, EntriesSettle, OnlyHeadsAreAdmitted, OvertakingIsBounded, JournalHasRoom, NumbersAreUnique, HeadsAreFirst, OrderIsWritten, OnlyOwnersTake};
+ghost use Rattle.pdq_model.specs.Given.{NumbersAreGivenOnce, OwnersAreOpen, MarksAreCancellations};
+ghost use Rattle.pdq_model.specs.Kept.{TicketsStay, LoansStay, OnlySubmitsAdd, SessionsStay};
+ghost use Rattle.pdq_model.specs.Laws.{LimitsAreKept, EntriesSettle, OnlyHeadsAreAdmitted, OvertakingIsBounded, JournalHasRoom, NumbersAreUnique, HeadsAreFirst, OrderIsWritten, OnlyOwnersTake, AdmittedGoFirst};
 
 /// Reserved quanta never pass DS_MAX_QUERIES, nor scan threads DS_MAX_SCANS, and at most DS_MAX_QUERIES queries are active.
 #[tactic(auto, using(crate::proofs::Histories::limits_are_kept))]
@@ -18,6 +20,12 @@ pub fn settles()
 #[tactic(auto, using(crate::proofs::Histories::only_heads_are_admitted))]
 pub fn admits_heads_only()
     ensures law { OnlyHeadsAreAdmitted }
+{}
+
+/// What an entry admits was before every other waiting query when it was admitted.
+#[tactic(auto, using(crate::proofs::Numbers::admitted_go_first))]
+pub fn admitted_go_first()
+    ensures law { AdmittedGoFirst }
 {}
 
 /// No waiting query was overtaken more than 32 times.
@@ -55,4 +63,45 @@ pub fn orders_the_waiting()
 /// owner collects it withdrawn or finishes it.
 pub fn only_owners_take()
     ensures law { OnlyOwnersTake }
+{}
+
+/// A query that is to be collected stays so until its owner collects it.
+#[tactic(auto, using(crate::proofs::Staying::tickets_stay))]
+pub fn tickets_stay()
+    ensures law { TicketsStay }
+{}
+
+/// A query that its owner has collected stays so, with its quanta and the frames of a quantum, until its owner finishes it.
+pub fn loans_stay()
+    ensures law { LoansStay }
+{}
+
+/// No event adds a query to a session but the one that it submits.
+#[tactic(auto, using(crate::proofs::Fewer::only_submits_add))]
+pub fn only_submits_add()
+    ensures law { OnlySubmitsAdd }
+{}
+
+/// An open session stays open until it is closed.
+#[tactic(auto, using(crate::proofs::Fewer::sessions_stay))]
+pub fn sessions_stay()
+    ensures law { SessionsStay }
+{}
+
+/// A legal history gives the numbers 1, 2, 3 and so on to its queries, each once and in this order, and likewise to its sessions.
+#[tactic(auto, using(crate::proofs::Given::numbers_are_given_once))]
+pub fn gives_numbers_once()
+    ensures law { NumbersAreGivenOnce }
+{}
+
+/// The session of each query that waits, is active or was withdrawn is open.
+#[tactic(auto, using(crate::proofs::Open::owners_are_open))]
+pub fn owners_are_open()
+    ensures law { OwnersAreOpen }
+{}
+
+/// The step of each flag, and of each withdrawal, is the place of an entry that cancels this very query.
+#[tactic(auto, using(crate::proofs::Marks::marks_are_cancellations))]
+pub fn marks_are_cancellations()
+    ensures law { MarksAreCancellations }
 {}

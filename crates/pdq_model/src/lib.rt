@@ -12,7 +12,9 @@ mod tests;
 pub use configuration::Config;
 pub use events::{Answer, Entry, Event, How, Reply, Setting, Why};
 pub use laws::{
-    admits_heads_only, bounds_overtaking, conserves, has_one_head, journal_has_room,
-    numbers_are_unique, only_owners_take, orders_the_waiting, settles,
+    admits_heads_only, admitted_go_first, bounds_overtaking, conserves, gives_numbers_once,
+    has_one_head, journal_has_room, loans_stay, marks_are_cancellations, numbers_are_unique,
+    only_owners_take, only_submits_add, orders_the_waiting, owners_are_open, sessions_stay,
+    settles, tickets_stay,
 };
 pub use rows::{Active, ActiveRow, Admit, Pending, Session, Waiting, WaitingRow, Withdrawn};

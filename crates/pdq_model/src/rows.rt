@@ -46,7 +46,7 @@ pub struct Session {
     pub admin: bool,
 }
 
-/// What a change that waits asks for. MAX_PDQPRIORITY is no part of it, since that changes at once.
+/// What a change that waits asks for. MAX_PDQPRIORITY and DS_NONPDQ_QUERY_MEM are no part of it, since they change at once.
 #[derive(Clone, Copy, Debug, PartialEq, Eq)]
 pub struct Pending {
     pub total_kb: u32,

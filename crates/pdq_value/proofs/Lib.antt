@@ -15,7 +15,10 @@ pub mod LineCuts
 pub mod HeaderShapes
 pub mod Utf8Texts
 pub mod NumberBounds
+pub mod NumberReads
+pub mod BadPlaces
+pub mod RowRoundTrips
 pub mod PlainTables
 pub mod RowReading
 pub mod RowTextLaws
-pub mod LeadLaws
+pub mod KeyPrefixLaws

@@ -11,7 +11,7 @@ abbrev IsSmall : Result ℤ NumberFault → Type 0
 IsSmall (Ok z) = nat_abs z < 10 ^ 18
 IsSmall (Err e) = ⊤
 
-nat_abs-neg : (n : ℕ) → nat_abs (neg_ℤ (pos n)) ≡ n
+pub nat_abs-neg : (n : ℕ) → nat_abs (neg_ℤ (pos n)) ≡ n
 nat_abs-neg zero = refl
 nat_abs-neg (suc n) = refl
 

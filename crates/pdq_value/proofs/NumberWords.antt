@@ -48,7 +48,7 @@ digit_is : (b : ℕ) → is_ascii_digit b ≡ true → IsDigit b
 digit_is b e = (grind (arith, nat_tests), grind (arith, nat_tests))
 
 -- the first digits of some bytes are digits
-digits_first : (bytes : List ℕ) (n : ℕ) → n ≡ prefix_len is_ascii_digit bytes → All IsDigit (take n bytes)
+pub digits_first : (bytes : List ℕ) (n : ℕ) → n ≡ prefix_len is_ascii_digit bytes → All IsDigit (take n bytes)
 digits_first bytes n e k d p =
     let l : length (take n bytes) ≤ n = omega (arith, length-take {A = ℕ}) in
     let q : k < n = omega (arith, l, p) in
@@ -61,7 +61,7 @@ head_tail false n m e = absurd (omega (arith, e))
 more_than_none : (n : ℕ) → nat_lt 0 (suc n) ≡ true
 more_than_none n = grind (arith, nat_tests)
 
-decimals_good : (scale : ℕ) (ds : List ℕ) → good_decimals scale ds ≡ length ds → All IsDigit ds × All (λ b. b ≡ 48) (drop scale ds)
+pub decimals_good : (scale : ℕ) (ds : List ℕ) → good_decimals scale ds ≡ length ds → All IsDigit ds × All (λ b. b ≡ 48) (drop scale ds)
 decimals_good zero [] e = (All-nil IsDigit, All-nil (λ b. b ≡ 48))
 decimals_good (suc scale) [] e = (All-nil IsDigit, All-nil (λ b. b ≡ 48))
 decimals_good zero (b ∷ bs) e =
@@ -76,7 +76,7 @@ decimals_good (suc scale) (b ∷ bs) e =
     let r = decimals_good scale bs h.1 in
     (All-cons IsDigit b bs (digit_is b h.0) r.0, r.1)
 
-sign_first : (text : List ℕ) → take (whole_begin text) text ≡ sign (is_negative text)
+pub sign_first : (text : List ℕ) → take (whole_begin text) text ≡ sign (is_negative text)
 sign_first [] = refl
 sign_first (b ∷ bs) = by_sign (is_negative (b ∷ bs)) refl where
   by_sign : (t : Bool) → is_negative (b ∷ bs) ≡ t → take (cond t 1 0) (b ∷ bs) ≡ sign t

@@ -1,7 +1,7 @@
 -- The rows of a plain table that are read have its columns' kinds.
 use Rattle.std.proofs.Common.{ℕ, ◌≡◌, ◌<◌, ◌+◌, Bool, true, false, cond, List, [], ◌∷◌, length, refl, subst, arith, Option, Some, None, Result, Ok, Err, All}
 use Rattle.std.specs.Prelude.{⊤, ◌^◌, ℤ, nat_abs, nat_lt}
-use Rattle.std.specs.Str.{is_utf8}
+use Rattle.std.specs.Str.{bytes_eq, is_utf8}
 use Rattle.std.proofs.lemmas.Bool.{false≢true}
 use Rattle.std.proofs.lemmas.Bool.Decides.{nat_tests}
 use Rattle.std.proofs.lemmas.List.Elements.{All-cons, All-nil}
@@ -11,9 +11,10 @@ use Rattle.pdq_value.specs.declared.shapes.Column.{Column}
 use Rattle.pdq_value.specs.declared.shapes.Kind.{Kind}
 use Rattle.pdq_value.specs.declared.shapes.Kind.TheVariants as kind
 use Rattle.pdq_value.specs.declared.shapes.Value.{Value}
+use Rattle.pdq_value.specs.declared.shapes.Value.TheVariants as value
 use Rattle.pdq_value.specs.Numbers.{number_read}
 use Rattle.pdq_value.specs.PlainTable.{has_fields, not_utf8_at, row_of, row_where, rows_from, value_of, value_of_number, value_of_text, values_of, with_row, with_value}
-use Rattle.pdq_value.specs.RowLines.{plain_text, raw_cells, raw_cells_after}
+use Rattle.pdq_value.specs.RowLines.{nothing_text, plain_text, raw_cells, raw_cells_after}
 use Rattle.pdq_value.specs.Tables.{IsRowOf, IsValueOf}
 use Rattle.pdq_value.proofs.NumberBounds.{number_read-small}
 use Rattle.pdq_value.proofs.Utf8Texts.{plain_text-is_utf8}
@@ -44,16 +45,20 @@ text_is k row column cell None good says = tt
 text_is kind.Words row column cell (Some text) good says = plain_text-is_utf8 cell text good says
 text_is (kind.Number scale) row column cell (Some text) good says = number_is scale row column _ (small _ text scale refl)
 
+null_is : (k : Kind) → IsValueOf k value.Null
+null_is (kind.Number scale) = tt
+null_is kind.Words = tt
+
 value_is : (k : Kind) (row column : ℕ) (cell : List ℕ) → is_utf8 cell ≡ true → Reads (IsValueOf k) (value_of k row column cell)
 unfolding value_of
-value_is k row column cell good = text_is k row column cell _ good refl
+value_is k row column cell good = if_reads (IsValueOf k) (bytes_eq cell nothing_text) _ _ (λ _. null_is k) (text_is k row column cell _ good refl)
 
 -- each of the cells is UTF-8
 abbrev AreUtf8 : List (List ℕ) → Type 0
 AreUtf8 [] = ⊤
 AreUtf8 (cell ∷ cells) = (is_utf8 cell ≡ true) × AreUtf8 cells
 
-none_at : (b : Bool) (n : Option ℕ) (column : ℕ) → cond b n (Some column) ≡ None → (b ≡ true) × (n ≡ None)
+pub none_at : (b : Bool) (n : Option ℕ) (column : ℕ) → cond b n (Some column) ≡ None → (b ≡ true) × (n ≡ None)
 none_at true n column e = (refl, e)
 none_at false n column e = absurd (grind (arith, e))
 

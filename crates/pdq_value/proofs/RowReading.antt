@@ -11,8 +11,8 @@ use Rattle.pdq_value.specs.declared.cells.Cell.TheVariants.{Nothing, Number, Wor
 use Rattle.pdq_value.specs.declared.shapes.Kind.{Kind}
 use Rattle.pdq_value.specs.declared.shapes.Kind.TheVariants as kind
 use Rattle.pdq_value.specs.Numbers.{number_of_text, number_text}
-use Rattle.pdq_value.specs.RowLines.{before_first, before_text, plain_text, plain_text_after, raw_cells, raw_cells_after}
-use Rattle.pdq_value.specs.RowText.{AreCellsOf, IsCellOf, cell_of_text, cell_read, cell_text, cells_read, escaped, escaped_text, nothing_text, row_read, row_text}
+use Rattle.pdq_value.specs.RowLines.{before_first, before_text, nothing_text, plain_text, plain_text_after, raw_cells, raw_cells_after}
+use Rattle.pdq_value.specs.RowText.{AreCellsOf, IsCellOf, cell_of_text, cell_read, cell_text, cells_read, escaped, escaped_text, row_read, row_text}
 use Rattle.pdq_value.proofs.NumberReading.{number_of_text-number_text, number_text-low}
 use Rattle.pdq_value.proofs.RowLineSteps.{before_all, before_all-append, before_all-empty, not_bar, at_bar, no_backslash, nothing_left, nothing_more}
 
@@ -72,7 +72,7 @@ escaped_text-whole : (text : List ℕ) → IsWhole (escaped_text text)
 escaped_text-whole [] = whole-nil
 escaped_text-whole (b ∷ text) = let s = escaped-StandsFor b in whole-append (escaped b) (escaped_text text) s.whole (escaped_text-whole text)
 
-plain_text-escaped_text : (text : List ℕ) → plain_text (escaped_text text) ≡ Some text
+pub plain_text-escaped_text : (text : List ℕ) → plain_text (escaped_text text) ≡ Some text
 plain_text-escaped_text [] = nothing_more
 plain_text-escaped_text (b ∷ text) = let s = escaped-StandsFor b in s.plain (escaped_text text) ∙ ap (before_text (Some b)) (plain_text-escaped_text text)
 
@@ -83,7 +83,7 @@ low-whole (b ∷ bytes) h =
     let p = All-head (λ b. b < 92) b bytes h in
     whole-append (b ∷ []) bytes (whole-plain b (λ e. omega (arith, p, e)) (λ e. omega (arith, p, e))) (low-whole bytes (All-tail (λ b. b < 92) b bytes h))
 
-plain_text-low : (bytes : List ℕ) → All (λ b. b < 92) bytes → plain_text bytes ≡ Some bytes
+pub plain_text-low : (bytes : List ℕ) → All (λ b. b < 92) bytes → plain_text bytes ≡ Some bytes
 plain_text-low [] h = nothing_more
 plain_text-low (b ∷ bytes) h =
     let p = All-head (λ b. b < 92) b bytes h in
@@ -93,7 +93,7 @@ nothing_text-whole : IsWhole nothing_text
 unfolding raw_cells_after
 nothing_text-whole = record { cut = λ ys. refl }
 
-nothing_text-no_text : plain_text nothing_text ≡ None
+pub nothing_text-no_text : plain_text nothing_text ≡ None
 unfolding plain_text_after
 nothing_text-no_text = refl
 
@@ -133,7 +133,7 @@ one_cell xs h = ap raw_cells (sym (append-nil xs)) ∙ h.cut [] ∙ ap (before_a
 next_cell : (xs ys : List ℕ) → IsWhole xs → raw_cells (xs ++ 124 ∷ ys) ≡ xs ∷ raw_cells ys
 next_cell xs ys h = h.cut (124 ∷ ys) ∙ ap (before_all xs) (at_bar 124 ys refl) ∙ before_all-empty xs (raw_cells ys)
 
-raw_cells-row_text : (k : Kind) (ks : List Kind) (c : Cell) (cs : List Cell) → AreCellsOf (k ∷ ks) (c ∷ cs) → raw_cells (row_text (c ∷ cs)) ≡ map cell_text (c ∷ cs)
+pub raw_cells-row_text : (k : Kind) (ks : List Kind) (c : Cell) (cs : List Cell) → AreCellsOf (k ∷ ks) (c ∷ cs) → raw_cells (row_text (c ∷ cs)) ≡ map cell_text (c ∷ cs)
 raw_cells-row_text k [] c [] h = one_cell (cell_text c) (cell_text-whole k c h.0)
 raw_cells-row_text k [] c (d ∷ cs) h = absurd h.1
 raw_cells-row_text k (l ∷ ks) c [] h = absurd h.1

@@ -17,14 +17,14 @@ ascii_one : (b : ℕ) → b < 128 → IsAscii (b ∷ [])
 ascii_one b low zero = low
 ascii_one b low (suc i) = omega arith
 
-one_byte : (b : ℕ) → b < 128 → IsUtf8 (b ∷ [])
+pub one_byte : (b : ℕ) → b < 128 → IsUtf8 (b ∷ [])
 one_byte b low = IsUtf8-from_ascii (b ∷ []) (ascii_one b low)
 
-one_char : (c : ℕ) → scalar c ≡ true → IsUtf8 (encode c)
+pub one_char : (c : ℕ) → scalar c ≡ true → IsUtf8 (encode c)
 one_char c is_scalar = (c ∷ [], (rw is_scalar refl, append-nil (encode c)))
 
 -- each of these bytes is beyond ASCII
-abbrev AreHigh : List ℕ → Type 0
+abbrev pub AreHigh : List ℕ → Type 0
 AreHigh [] = ⊤
 AreHigh (b ∷ bytes) = (128 ≤ b) × AreHigh bytes
 
@@ -37,10 +37,10 @@ not_low c b high one (inl low) = absurd (omega (arith, high, low, one low))
 not_low c b high one (inr h) = h
 
 -- each byte of a character beyond ASCII is
-high_bytes : (c : ℕ) → 128 ≤ c → AreHigh (encode c)
+pub high_bytes : (c : ℕ) → 128 ≤ c → AreHigh (encode c)
 high_bytes c high = high_from_places (encode c) (λ k within. not_low c (get_or (encode c) k 0) high (inside_one c [] (encode c) k (sym (append-nil (encode c))) within) (cases_lt (get_or (encode c) k 0) 128))
 
-is_other : (b n : ℕ) → n < 128 → 128 ≤ b → (b == n) ≡ false
+pub is_other : (b n : ℕ) → n < 128 → 128 ≤ b → (b == n) ≡ false
 is_other b n low high = grind (arith, nat_tests, low, high)
 
 map_map : (b : ℕ) (xs : List ℕ) (text : Option (List ℕ)) → before_text (Some b) (option_map (λ t. xs ++ t) text) ≡ option_map (λ t. (b ∷ xs) ++ t) text
@@ -85,7 +85,7 @@ option_good false b o text low h k = k
 escaped_good : (b : ℕ) (text : Option (List ℕ)) → IsGood text → IsGood (before_text (escaped_byte b) text)
 escaped_good b text h = option_good (b == 92) 92 _ text (omega arith) h (option_good (b == 124) 124 _ text (omega arith) h (option_good (b == 110) 10 _ text (omega arith) h (option_good (b == 114) 13 None text (omega arith) h tt)))
 
-scalar_head : (a b : Bool) → (a && b) ≡ true → (a ≡ true) × (b ≡ true)
+pub scalar_head : (a b : Bool) → (a && b) ≡ true → (a ≡ true) × (b ≡ true)
 scalar_head true b e = (refl, e)
 scalar_head false b e = absurd (false≢true e)
 
@@ -119,3 +119,9 @@ pub plain_text-is_utf8 : (cell text : List ℕ) → is_utf8 cell ≡ true → pl
 plain_text-is_utf8 cell text good says =
     let u = IsUtf8-from_is_utf8 cell good in
     is_utf8-from_IsUtf8 text (subst IsGood says (subst (λ xs. IsGood (plain_text_after false xs)) u.1.1 (chars_good u.0 false u.1.0)))
+
+pub says_utf8 : (cell text : List ℕ) → is_utf8 cell ≡ true → plain_text cell ≡ Some text → is_utf8 text ≡ true
+says_utf8 = plain_text-is_utf8
+
+pub utf8_decided : (bytes : List ℕ) → IsUtf8 bytes → is_utf8 bytes ≡ true
+utf8_decided bytes h = is_utf8-from_IsUtf8 bytes h

@@ -41,9 +41,11 @@ row_cmp = slice_cmp cell_cmp
 abbrev pub cell_at : ℕ → List Cell → Cell
 cell_at i row = slice_index_or row i Nothing
 
--- the cell of a value in a column of this kind
+-- the cell of a value in a column of this kind: nothing where there is no value
 abbrev pub cell_of : Kind → Value → Cell
+cell_of (kind.Number s) value.Null = Nothing
 cell_of (kind.Number s) (value.Number z) = Number z s
 cell_of (kind.Number s) (value.Words t) = Words t
+cell_of kind.Words value.Null = Nothing
 cell_of kind.Words (value.Number z) = Number z 0
 cell_of kind.Words (value.Words t) = Words t

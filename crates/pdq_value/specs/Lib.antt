@@ -9,4 +9,4 @@ pub mod Numbers
 pub mod PlainTable
 pub mod Appending
 pub mod RowText
-pub mod Leads
+pub mod KeyPrefixes

@@ -1,6 +1,6 @@
 -- Number texts: an optional `-`, one or more digits, and optionally `.` and one or more digits, and nothing else.
 -- Decimals past the scale are zeros.
-use Rattle.std.specs.Prelude.{◌↔◌, ◌≡◌, ◌<◌, ◌≤◌, All, ℕ, zero, suc, ◌/◌, ◌%◌, int_lt, nat_abs, decimal, ◌+◌, ◌-◌, ◌*◌, ◌^◌, List, [], ◌∷◌, ◌++◌, Bool, not, ◌&&◌, ◌==◌, nat_lt, if◌then◌else◌, ℤ, pos, neg_ℤ, Option, None, Some, Result, Ok, Err, length, take, drop, replicate, slice_index, slice_range}
+use Rattle.std.specs.Prelude.{◌↔◌, ◌≡◌, ◌<◌, ◌≤◌, All, ℕ, zero, suc, ◌/◌, ◌%◌, int_lt, nat_abs, decimal, ◌+◌, ◌-◌, ◌*◌, ◌^◌, List, [], ◌∷◌, ◌++◌, Bool, not, ◌&&◌, ◌==◌, nat_lt, if◌then◌else◌, ℤ, pos, neg_ℤ, Option, None, Some, Result, Ok, Err, codes, length, take, drop, replicate, slice_index, slice_range}
 use Rattle.std.specs.Char.{is_ascii_digit}
 use Rattle.std.specs.List.{prefix_len}
 use Rattle.pdq_value.specs.declared.numbers.NumberFault.{NumberFault}
@@ -86,7 +86,7 @@ last_digits zero n = []
 last_digits (suc count) n = last_digits count (n / 10) ++ (digit_zero + n % 10) ∷ []
 
 abbrev pub sign_text : ℤ → List ℕ
-sign_text number = if int_lt number (pos 0) then minus_sign ∷ [] else []
+sign_text number = if int_lt number (pos 0) then codes "-" else []
 
 -- nothing at scale 0
 abbrev pub decimals_text : ℕ → ℕ → List ℕ
@@ -113,10 +113,37 @@ pub record IsNumberText (scale : ℕ) (text : List ℕ) (number : ℤ) : Type 0 
   pub zeros : All (λ b. b ≡ digit_zero) (drop scale decimals)
   pub value : number ≡ (let size = number_after 0 (whole ++ take scale (decimals ++ replicate scale digit_zero)) in if negative then neg_ℤ (pos size) else pos size)
 
--- what is printed of a number of 128 bits is read back as the number
-abbrev pub NumberTextsReadBack : Type 0
-NumberTextsReadBack = (number : ℤ) (scale : ℕ) → nat_abs number < 2 ^ 128 → number_of_text scale (number_text number scale) ≡ Some number
-
--- a text is read as a number exactly where it says the number
+-- a value of a table is read exactly where the text says it and it is small enough
 abbrev pub NumberTextsAreRead : Type 0
-NumberTextsAreRead = (scale : ℕ) (text : List ℕ) (number : ℤ) → (number_of_text scale text ≡ Some number) ↔ IsNumberText scale text number
+NumberTextsAreRead = (scale : ℕ) (text : List ℕ) (number : ℤ) → (number_read text scale ≡ Ok number) ↔ (IsNumberText scale text number × (nat_abs number < 10 ^ 18))
+
+-- a number text is too large exactly where its number is
+abbrev pub LargeNumbersAreRefused : Type 0
+LargeNumbersAreRefused = (scale : ℕ) (text : List ℕ) → (number_read text scale ≡ Err TooLarge) ↔ ((number : ℤ) × IsNumberText scale text number × (10 ^ 18 ≤ nat_abs number))
+
+-- with some bytes behind it, it is a number text
+abbrev pub MayBecomeNumber : ℕ → List ℕ → Type 0
+MayBecomeNumber scale text = (more : List ℕ) × (number : ℤ) × IsNumberText scale (text ++ more) number
+
+-- what stands before the place may still become a number text, and with the byte there it no longer may; a text that ends there is none
+pub record IsBadPlace (scale : ℕ) (text : List ℕ) (place : ℕ) : Type 0 where
+  pub within : place ≤ length text
+  pub good_before : MayBecomeNumber scale (take place text)
+  pub bad_there : place < length text → MayBecomeNumber scale (take (place + 1) text) → ⊥
+  pub no_number : (number : ℤ) → IsNumberText scale text number → ⊥
+
+-- every other text is bad at the first place from which on it cannot become a number text
+abbrev pub BadNumbersAreRefused : Type 0
+BadNumbersAreRefused = (scale : ℕ) (text : List ℕ) (place : ℕ) → (number_read text scale ≡ Err (BadNumber place)) ↔ IsBadPlace scale text place
+
+-- what is printed of a value of a table is read back as the value
+abbrev pub NumberTextsReadBack : Type 0
+NumberTextsReadBack = (number : ℤ) (scale : ℕ) → nat_abs number < 10 ^ 18 → number_read (number_text number scale) scale ≡ Ok number
+
+-- a text says a number, however large, exactly where the definition finds it
+abbrev pub NumberTextsSayNumbers : Type 0
+NumberTextsSayNumbers = (scale : ℕ) (text : List ℕ) (number : ℤ) → (number_of_text scale text ≡ Some number) ↔ IsNumberText scale text number
+
+-- what is printed of a number of 128 bits, as a sum is, says the number
+abbrev pub PrintedNumbersSayThemselves : Type 0
+PrintedNumbersSayThemselves = (number : ℤ) (scale : ℕ) → nat_abs number < 2 ^ 128 → number_of_text scale (number_text number scale) ≡ Some number

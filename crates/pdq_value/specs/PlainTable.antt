@@ -1,6 +1,6 @@
 -- The text of a plain table: a header, then one row line for each row.
 use Rattle.std.specs.Prelude.{◌≡◌, ◌⊎◌, ℕ, ◌+◌, List, [], ◌∷◌, Bool, true, false, ◌==◌, nat_lt, if◌then◌else◌, ℤ, Option, None, Some, Result, Ok, Err, length, map}
-use Rattle.std.specs.Str.{is_utf8}
+use Rattle.std.specs.Str.{bytes_eq, is_utf8}
 use Rattle.pdq_base.specs.Lines.{InputLine, lines_of, without_return}
 use Rattle.pdq_value.specs.declared.loading.LoadFault.{LoadFault}
 use Rattle.pdq_value.specs.declared.loading.LoadFault.TheVariants.{Memory, Wrong}
@@ -14,7 +14,7 @@ use Rattle.pdq_value.specs.declared.shapes.Value.{Value}
 use Rattle.pdq_value.specs.declared.shapes.Value.TheVariants as value
 use Rattle.pdq_value.specs.Header.{header_shape}
 use Rattle.pdq_value.specs.Numbers.{number_read}
-use Rattle.pdq_value.specs.RowLines.{plain_text, raw_cells}
+use Rattle.pdq_value.specs.RowLines.{nothing_text, plain_text, raw_cells}
 use Rattle.pdq_value.specs.Tables.{ShapeView, TableView}
 
 -- the most bytes of a plain table, and the most rows of a table
@@ -46,9 +46,9 @@ value_of_text k row column None = Err (fault BadText row column)
 value_of_text kind.Words row column (Some text) = Ok (value.Words text)
 value_of_text (kind.Number scale) row column (Some text) = value_of_number row column (number_read text scale)
 
--- the value of a raw cell in a column of this kind
+-- the value of a raw cell in a column of this kind; none where the cell is `\N` and no more
 unfoldable pub value_of : Kind → ℕ → ℕ → List ℕ → Result Value LoadFault
-value_of k row column cell = value_of_text k row column (plain_text cell)
+value_of k row column cell = if bytes_eq cell nothing_text then Ok value.Null else value_of_text k row column (plain_text cell)
 
 abbrev pub with_value : Result Value LoadFault → Result (List Value) LoadFault → Result (List Value) LoadFault
 with_value (Ok v) (Ok vs) = Ok (v ∷ vs)

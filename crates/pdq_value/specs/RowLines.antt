@@ -1,5 +1,5 @@
 -- How a row line is cut into raw cells, and what a raw cell says.
-use Rattle.std.specs.Prelude.{ℕ, List, [], ◌∷◌, Bool, true, false, ◌==◌, if◌then◌else◌, Option, None, Some, option_map}
+use Rattle.std.specs.Prelude.{ℕ, List, [], ◌∷◌, Bool, true, false, ◌==◌, if◌then◌else◌, Option, None, Some, option_map, codes}
 
 -- the byte before which another means itself or a control byte, and the byte between cells
 abbrev pub backslash : ℕ
@@ -7,6 +7,10 @@ backslash = 92
 
 abbrev pub bar : ℕ
 bar = 124
+
+-- `\N`, which stands for nothing where it is a whole cell
+abbrev pub nothing_text : List ℕ
+nothing_text = codes "\\N"
 
 -- the cells with one more byte at the beginning of the first
 abbrev pub before_first : ℕ → List (List ℕ) → List (List ℕ)

@@ -1,28 +1,28 @@
 -- A row as it is printed, and as it is read back.
-use Rattle.std.specs.Prelude.{⊤, ◌≡◌, ◌<◌, ◌≤◌, ◌^◌, length, nat_abs, ℕ, List, [], ◌∷◌, ◌==◌, if◌then◌else◌, map, flat_map, Option, None, Some, option_map, option_and_then}
+use Rattle.std.specs.Prelude.{⊤, ◌≡◌, ◌<◌, ◌≤◌, ◌^◌, length, nat_abs, ℕ, List, [], ◌∷◌, ◌==◌, if◌then◌else◌, map, flat_map, Option, None, Some, option_map, option_and_then, Ok, codes}
 use Rattle.std.specs.List.{join_with_byte}
 use Rattle.std.specs.Str.{bytes_eq}
 use Rattle.pdq_value.specs.declared.cells.Cell.{Cell}
 use Rattle.pdq_value.specs.declared.cells.Cell.TheVariants.{Nothing, Number, Words}
 use Rattle.pdq_value.specs.declared.shapes.Kind.{Kind}
 use Rattle.pdq_value.specs.declared.shapes.Kind.TheVariants as kind
+use Rattle.pdq_value.specs.declared.shapes.Column.{Column}
+use Rattle.pdq_value.specs.declared.shapes.Value.{Value}
 use Rattle.pdq_value.specs.Numbers.{number_of_text, number_text}
-use Rattle.pdq_value.specs.RowLines.{backslash, bar, plain_text, raw_cells}
+use Rattle.pdq_value.specs.PlainTable.{row_of}
+use Rattle.pdq_value.specs.Tables.{IsRowOf, cells_of}
+use Rattle.pdq_value.specs.RowLines.{backslash, bar, nothing_text, plain_text, raw_cells}
 
 -- a byte of a text: a backslash, a bar, byte 10 and byte 13 get a backslash in front
 abbrev pub escaped : ℕ → List ℕ
 escaped b =
-    if b == backslash then backslash ∷ backslash ∷ []
-    else (if b == bar then backslash ∷ bar ∷ []
-    else (if b == 10 then backslash ∷ 110 ∷ []
-    else (if b == 13 then backslash ∷ 114 ∷ [] else b ∷ [])))
+    if b == backslash then codes "\\\\"
+    else (if b == bar then codes "\\|"
+    else (if b == 10 then codes "\\n"
+    else (if b == 13 then codes "\\r" else b ∷ [])))
 
 abbrev pub escaped_text : List ℕ → List ℕ
 escaped_text text = flat_map escaped text
-
--- `\N`
-abbrev pub nothing_text : List ℕ
-nothing_text = backslash ∷ 78 ∷ []
 
 unfoldable pub cell_text : Cell → List ℕ
 cell_text Nothing = nothing_text
@@ -66,6 +66,10 @@ AreCellsOf [] (c ∷ cs) = ⊥
 AreCellsOf (k ∷ ks) [] = ⊥
 AreCellsOf (k ∷ ks) (c ∷ cs) = IsCellOf k c × AreCellsOf ks cs
 
--- what is printed of a row of some cells is read back as the row
-abbrev pub RowsReadBack : Type 0
-RowsReadBack = (kinds : List Kind) (cells : List Cell) → 1 ≤ length cells → AreCellsOf kinds cells → row_read kinds (row_text cells) ≡ Some cells
+-- a row of a table that is printed is read back as the row, whichever line of a plain table it stands in
+abbrev pub RowsAreReadBack : Type 0
+RowsAreReadBack = (columns : List Column) (row : ℕ) (values : List Value) → 1 ≤ length columns → IsRowOf columns values → row_of columns row (row_text (cells_of columns values)) ≡ Ok values
+
+-- what is printed of any cells, sums and averages beyond the values of tables among them, says the cells
+abbrev pub RowsSayTheirCells : Type 0
+RowsSayTheirCells = (kinds : List Kind) (cells : List Cell) → 1 ≤ length cells → AreCellsOf kinds cells → row_read kinds (row_text cells) ≡ Some cells

@@ -36,11 +36,13 @@ abbrev pub IsKind : Kind → Type 0
 IsKind (kind.Number s) = s ≤ 6
 IsKind kind.Words = ⊤
 
--- a number below 10^18 in magnitude for a column of numbers, UTF-8 for a column of texts
+-- no value for every column, a number below 10^18 in magnitude for a column of numbers, UTF-8 for a column of texts
 abbrev pub IsValueOf : Kind → Value → Type 0
+IsValueOf (kind.Number s) value.Null = ⊤
 IsValueOf (kind.Number s) (value.Number z) = nat_abs z < 10 ^ 18
 IsValueOf kind.Words (value.Words t) = is_utf8 t ≡ true
 IsValueOf (kind.Number s) (value.Words t) = ⊥
+IsValueOf kind.Words value.Null = ⊤
 IsValueOf kind.Words (value.Number z) = ⊥
 
 -- as many values as columns, each of its column's kind

@@ -7,7 +7,7 @@ use crate::shapes::{Kind, Value};
 use pdq_base::Memory;
 use std::alloc::Global;
 
-/// The cell of a value in a column of this kind.
+/// The cell of a value in a column of this kind: nothing where it is `Null`.
 ///
 /// # Errors
 /// `Memory` where it is wanting.
@@ -15,6 +15,7 @@ pub fn cell_of(alloc: Global, kind: Kind, value: &Value) -> Result<Cell, Memory>
     ensures value { IfOk result (λ cell. cell ≡ cell_of kind value.now) }
 {
     match value {
+        Value::Null => Ok(Cell::Nothing),
         Value::Number(number) => {
             let unscaled = i128::from(*number);
             match kind {

@@ -1,6 +1,6 @@
 //! Numbers as they are printed.
 ghost use Rattle.pdq_value.specs.Appending.{AppendsPart};
-ghost use Rattle.pdq_value.specs.Numbers.{NumberTextsAreRead, NumberTextsReadBack, decimals_text, last_digits, number_text, sign_text};
+ghost use Rattle.pdq_value.specs.Numbers.{BadNumbersAreRefused, LargeNumbersAreRefused, NumberTextsAreRead, NumberTextsReadBack, NumberTextsSayNumbers, PrintedNumbersSayThemselves, decimals_text, last_digits, number_text, sign_text};
 ghost use Rattle.std.specs.Prelude.{◌≡◌, ◌≤◌, ◌++◌, OnErr, OnOk, decimal};
 
 use crate::appending::append;
@@ -59,8 +59,14 @@ fn print_last_digits(number: u128, count: u32, to: &mut Vec<u8>) -> Result<(), M
     append(to, &[b'0' + (number % 10) as u8])
 }
 
-/// A text is read as a number exactly where it says the number, and what is printed of a number is read back as the number.
+/// A text is read as a value exactly where it says a number below 10^18 in magnitude, is too large exactly where it says another
+/// number, and else is bad at the first place from which on no bytes behind it make it a number text. What is printed of a value is
+/// read back as the value, and what is printed of a sum says the sum.
 pub fn number_texts_read_back()
     ensures reading { NumberTextsAreRead }
+    ensures large { LargeNumbersAreRefused }
+    ensures bad { BadNumbersAreRefused }
     ensures round_trip { NumberTextsReadBack }
+    ensures saying { NumberTextsSayNumbers }
+    ensures wide { PrintedNumbersSayThemselves }
 {}

@@ -1,5 +1,5 @@
 //! A plain table: a header, then one row line for each row.
-ghost use Rattle.std.specs.Prelude.{All, ◌==◌, position, ◌≡◌, ◌+◌, ◌∷◌, ◌<◌, ◌≤◌, ◌^◌, [], IfOk, IfErr, IfSome, option_map, Ok, Err, Some, None, length, map};
+ghost use Rattle.std.specs.Prelude.{All, ◌==◌, position, ◌≡◌, ◌+◌, ◌∷◌, ◌<◌, ◌≤◌, ◌^◌, [], IfOk, IfErr, IfSome, option_map, Ok, Err, Some, None, length, map, true};
 ghost use Rattle.std.specs.Str.{is_utf8};
 ghost use Rattle.pdq_base.specs.Lines.{lines_of, without_return};
 ghost use Rattle.pdq_value.specs.PlainTable.{cells_of, fault, has_fields, is_one_text, line_text, not_utf8_at, plain_table_of, row_of, rows_from, table_of_lines, value_of, values_of, with_rows, Refuses};
@@ -10,7 +10,7 @@ ghost use Rattle.pdq_value.specs.Tables.{IsKind, IsShape, IsTable, shape_of, tab
 use crate::header::read_header;
 use crate::loading::{LoadFault, LoadWhy};
 use crate::numbers::read_number;
-use crate::row_lines::{first_cell_end, text_of_cell};
+use crate::row_lines::{first_cell_end, is_nothing, text_of_cell};
 use crate::shapes::{Column, Kind, Row, Table, TableShape, Value};
 use crate::texts::Text;
 use pdq_base::{Memory, is_utf8, without_return};
@@ -34,8 +34,8 @@ fn fault(why: LoadWhy, row_no: u32, column: u32) -> LoadFault
     }
 }
 
-/// The value of a raw cell in a column of this kind.
-#[tactic(auto, using(crate::proofs::PlainTexts::no_longer), unfolding(crate::specs::PlainTable::value_of))]
+/// The value of a raw cell in a column of this kind; `Null` where the cell is `\N` and no more.
+#[tactic(auto, using(crate::proofs::PlainTexts::no_longer, crate::proofs::Utf8Texts::says_utf8), unfolding(crate::specs::PlainTable::value_of))]
 fn read_value(
     alloc: Global,
     kind: Kind,
@@ -45,9 +45,13 @@ fn read_value(
 ) -> Result<Value, LoadFault>
     requires kind { IsKind kind }
     requires short { length cell.now ≤ 16777216 }
+    requires utf8 { is_utf8 cell.now ≡ true }
     ensures read { IfOk result (λ v. value_of kind row_no column cell.now ≡ Ok v) }
     ensures refused { IfErr result (Refuses (value_of kind row_no column cell.now)) }
 {
+    if is_nothing(cell) {
+        return Ok(Value::Null);
+    }
     let Ok(text) = text_of_cell(alloc, cell) else {
         return Err(LoadFault::Memory);
     };
@@ -128,6 +132,7 @@ fn read_values(
     requires kinds { All (λ (c : Column). IsKind c.kind) columns.now }
     requires few { length columns.now ≤ 16 }
     requires short { length line.now ≤ 16777216 }
+    requires utf8 { not_utf8_at 1 (raw_cells line.now) ≡ None }
     ensures read { IfOk result (λ v. values_of columns.now row_no 1 (raw_cells line.now) ≡ Ok v.items) }
     ensures refused { IfErr result (Refuses (values_of columns.now row_no 1 (raw_cells line.now))) }
 {
@@ -238,7 +243,8 @@ fn read_table(alloc: Global, shape: TableShape, bytes: &[u8]) -> Result<Table, L
 }
 
 /// The plain table that the bytes say: a first line `table NAME COLUMN ..`, with one blank between and each column as
-/// `name:text` or `name:number:s`, then one row line for each row. The form is our own.
+/// `name:text` or `name:number:s`, then one row line for each row, in which a cell that is `\N` and no more is `Null`, whatever its
+/// column holds. The form is our own.
 ///
 /// # Errors
 /// The first fault, `TooLong` (more than 16,777,216 bytes) before all others, then line by line: `WrongHeader` for any fault of

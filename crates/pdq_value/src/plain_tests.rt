@@ -55,7 +55,10 @@ fn plain_tables_are_refused(rt: HostRuntime) {
             1,
         ),
         ("table t a:number:2\n\\n1\n", LoadWhy::BadNumber, 1, 1),
-        ("table t a:text\n\\N\n", LoadWhy::BadText, 1, 1),
+        ("table t a:text\n\\Nx\n", LoadWhy::BadText, 1, 1),
+        ("table t a:text\nx\\N\n", LoadWhy::BadText, 1, 1),
+        ("table t a:number:0\n\\N0\n", LoadWhy::BadText, 1, 1),
+        ("table t a:number:0 b:text\n|x\n", LoadWhy::BadNumber, 1, 1),
         ("table t a:text b:text\nx|\\\n", LoadWhy::BadText, 1, 2),
         ("table t a:text\n\\x|y\n", LoadWhy::WrongFields, 1, 0),
         (
@@ -90,6 +93,13 @@ fn plain_tables_are_read(rt: HostRuntime) -> Result<(), Fail> {
         assert_eq!(rt; text.bytes(), name);
         assert_eq!(rt; *number, price);
     }
+    let holes = b"table t a:text b:number:1\n\\N|2.0\nx|\\N";
+    let holes = read_plain(alloc, holes).map_err(|_| "refused")?;
+    let [first, second] = holes.rows.as_slice() else {
+        return Err("rows".into());
+    };
+    assert!(rt; matches!(first.values(), [Value::Null, Value::Number(20)]));
+    assert!(rt; matches!(second.values(), [Value::Words(_), Value::Null]));
     for (text, rows) in [
         ("table t a:text", 0),
         ("table t a:text\n\n", 1),

@@ -1,8 +1,9 @@
 //! How a row line is cut into raw cells, and what a raw cell says.
-ghost use Rattle.pdq_value.specs.RowLines.{escaped_byte, plain_text, raw_cells};
+ghost use Rattle.pdq_value.specs.RowLines.{escaped_byte, nothing_text, plain_text, raw_cells};
+ghost use Rattle.std.specs.Str.{bytes_eq};
 ghost use Rattle.std.specs.Prelude.{◌≡◌, ◌+◌, ◌<◌, ◌≤◌, [], ◌∷◌, IfOk, drop, length, option_map, take};
 
-use pdq_base::Memory;
+use pdq_base::{Memory, is_text};
 use std::alloc::Global;
 
 /// Where the first raw cell of a line ends: at the first bar that no backslash takes with it, or at the line's end.
@@ -23,6 +24,13 @@ pub fn first_cell_end(line: &[u8]) -> usize
         }
     }
     line.len()
+}
+
+/// Whether a raw cell is `\N` and no more, which stands for nothing.
+pub fn is_nothing(cell: &[u8]) -> bool
+    ensures value { result ≡ bytes_eq cell.now nothing_text }
+{
+    is_text(cell, b"\\N")
 }
 
 /// What a byte after a backslash stands for.

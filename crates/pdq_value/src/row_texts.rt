@@ -2,7 +2,7 @@
 ghost use Rattle.pdq_value.specs.Appending.{AppendsPart};
 ghost use Rattle.pdq_value.specs.Cells.{scale_of};
 ghost use Rattle.pdq_value.specs.RowLines.{bar};
-ghost use Rattle.pdq_value.specs.RowText.{RowsReadBack, cell_text, escaped, escaped_text, row_text};
+ghost use Rattle.pdq_value.specs.RowText.{RowsAreReadBack, RowsSayTheirCells, cell_text, escaped, escaped_text, row_text};
 ghost use Rattle.pdq_value.specs.declared.cells.Cell.{Cell as CellValue};
 ghost use Rattle.std.specs.Prelude.{◌≡◌, ◌≤◌, ◌∷◌, ◌++◌, All, OnErr, OnOk};
 
@@ -76,7 +76,9 @@ fn print_byte(byte: u8, to: &mut Vec<u8>) -> Result<(), Memory>
     }
 }
 
-/// What is printed of a row of some cells is read back as the row, where the kinds of its columns are known.
+/// What is printed of a row of a table is read back as the row, `Null` in it too, since no text is printed as `\N`. What is printed of
+/// any row of an answer says its cells, where the kinds of its columns are known.
 pub fn row_texts_read_back()
-    ensures law { RowsReadBack }
+    ensures law { RowsAreReadBack }
+    ensures cells { RowsSayTheirCells }
 {}

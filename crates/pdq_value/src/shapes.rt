@@ -13,9 +13,11 @@ pub enum Kind {
     Words,
 }
 
-/// A value of a table: a number in units of its column's last decimal place, below 10^18 in magnitude, or a text.
+/// A value of a table: none, a number in units of its column's last decimal place, below 10^18 in magnitude, or a text. Every
+/// column may hold `Null`.
 #[derive(Debug, Drop)]
 pub enum Value {
+    Null,
     Number(i64),
     Words(Text),
 }
@@ -31,6 +33,7 @@ impl Value {
         ensures value { IfOk result (λ value. value ≡ self.now) }
     {
         match self {
+            Value::Null => Ok(Value::Null),
             Value::Number(number) => Ok(Value::Number(*number)),
             Value::Words(text) => Ok(Value::Words(text.copy(alloc)?)),
         }

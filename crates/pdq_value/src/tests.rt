@@ -84,18 +84,18 @@ fn averages_are_rounded_half_away_from_zero(rt: HostRuntime) {
     assert_eq!(rt; average(0, 20_000_000), 0);
 }
 
-fn words(alloc: Global, text: &[u8]) -> Result<Cell, Memory> {
-    Ok(Cell::Words(Text::from_bytes(alloc, text)?))
+fn words(alloc: Global, text: &str) -> Result<Cell, Memory> {
+    Ok(Cell::Words(Text::from_str(alloc, text)?))
 }
 
 fn row(alloc: Global) -> Result<Vec<Cell>, Memory> {
     let price = cell_of(alloc, Kind::Number { scale: 2 }, &Value::Number(-150))?;
-    let name = Value::Words(Text::from_bytes(alloc, b"a|b\\c\nd\re")?).copy(alloc)?;
+    let name = Value::Words(Text::from_str(alloc, "a|b\\c\nd\re")?).copy(alloc)?;
     let cells = [
         price,
         cell_of(alloc, Kind::Words, &name)?,
         Cell::Nothing,
-        words(alloc, b"")?,
+        words(alloc, "")?,
     ];
     let Ok(cells) = Vec::from_array(alloc, cells) else {
         return Err(Memory);

@@ -1,4 +1,4 @@
--- The lead of a text: its first bytes as one number, by which texts are compared first.
+-- The prefix of a text: its first bytes as one number, by which texts are compared first.
 use Rattle.std.specs.Prelude.{◌≡◌, ℕ, zero, suc, ◌+◌, ◌*◌, ◌^◌, ◌<◌, List, [], ◌∷◌, All}
 use Rattle.std.specs.Ordering.{nat_cmp}
 use Rattle.std.specs.Cmp.Lexicographic.{slice_cmp}
@@ -11,12 +11,12 @@ leading (suc places) [] = 0
 leading (suc places) (b ∷ numbers) = b * 256 ^ places + leading places numbers
 
 -- the first 15 bytes
-unfoldable pub text_lead : List ℕ → ℕ
-text_lead bytes = leading 15 bytes
+unfoldable pub text_prefix : List ℕ → ℕ
+text_prefix bytes = leading 15 bytes
 
 abbrev pub AreBytes : List ℕ → Type 0
 AreBytes numbers = All (λ b. b < 256) numbers
 
--- a text with a lesser lead is the lesser one
-abbrev pub LesserLeadsAreLesserTexts : Type 0
-LesserLeadsAreLesserTexts = (a b : List ℕ) → AreBytes b → text_lead a < text_lead b → slice_cmp nat_cmp a b ≡ Less
+-- a text with a lesser prefix is the lesser one
+abbrev pub LesserPrefixesAreLesserTexts : Type 0
+LesserPrefixesAreLesserTexts = (a b : List ℕ) → AreBytes b → text_prefix a < text_prefix b → slice_cmp nat_cmp a b ≡ Less
