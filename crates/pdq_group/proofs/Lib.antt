@@ -1,0 +1,14 @@
+pub mod Lists
+pub mod Keys
+pub mod WideWords
+pub mod States
+pub mod Puts
+pub mod Reaching
+pub mod Holding
+pub mod Finding
+pub mod Taking
+pub mod Passing
+pub mod Retiring
+pub mod Ending
+pub mod Once
+pub mod Examples
