@@ -24,21 +24,23 @@ use Rattle.pdqd.specs.Files.{Contents}
 use Rattle.pdqd.specs.Input.{GaveSome, IsInput}
 use Rattle.pdqd.specs.Output.{Output}
 use Rattle.pdqd.specs.declared.words.Form.TheVariants.{Ask}
-use Rattle.pdqd.specs.Run.{IsWhole, IsCutOff, WroteAll, WrotePart}
-use Rattle.pdqd.proofs.Statuses.{no_files}
+use Rattle.pdqd.specs.Run.{IsWhole, IsCutOff, RanInPart, RanWhole}
+use Rattle.pdqd.proofs.Statuses.{no_files, none_is_few}
 
 -- nothing was written
-pub wrote_nothing : (select : List ℕ) (contents : Contents) (faults : ℕ) (before now : SourceView) (w : Option (List ℕ)) → GaveSome before now → WrotePart (Ask select) contents before now w w faults
-wrote_nothing select contents faults before now w gave = record {
+pub wrote_nothing : (select : List ℕ) (contents : Contents) (f g : List ℕ) (before now : SourceView) (w : Option (List ℕ)) → GaveSome before now → RanInPart (Ask select) contents before now w w f g
+wrote_nothing select contents f g before now w gave = record {
   files = no_files;
   given = tt;
-  bytes = gave.bytes;
-  text = [];
-  failed = [];
-  few = omega arith;
-  came = gave.came;
-  grew = grows_none w;
-  begins = λ more can. record { tail = (ask_output select (gave.bytes ++ more)).text; part = refl };
+  wrote = record {
+    bytes = gave.bytes;
+    text = [];
+    failed = [];
+    few = none_is_few f g [] refl;
+    came = gave.came;
+    grew = grows_none w;
+    begins = λ more later can. record { tail = (ask_output select (gave.bytes ++ more)).text; part = refl };
+  };
 }
 
 -- a table that is too long is refused, whatever it says
@@ -66,34 +68,38 @@ same_output : (select : List ℕ) (before now : SourceView) (bytes more : List �
 same_output select before now bytes more input can = by_end select before now bytes more input.ends can
 
 -- a reply that was written whole
-pub wrote_reply : (select : List ℕ) (contents : Contents) (faults status : ℕ) (before now : SourceView) (w v : Option (List ℕ)) (bytes text : List ℕ) → IsInput before now bytes → record { text = text; status = status } ≡ ask_output select bytes → Grows w v text → WroteAll (Ask select) contents before now w v faults status
-wrote_reply select contents faults status before now w v bytes text input is grew = record {
+pub wrote_reply : (select : List ℕ) (contents : Contents) (f g : List ℕ) (status : ℕ) (before now : SourceView) (w v : Option (List ℕ)) (bytes text : List ℕ) → IsInput before now bytes → record { text = text; status = status } ≡ ask_output select bytes → Grows w v text → RanWhole (Ask select) contents before now w v f g status
+wrote_reply select contents f g status before now w v bytes text input is grew = record {
   files = no_files;
   given = tt;
-  bytes = bytes;
-  text = text;
-  failed = [];
-  few = omega arith;
-  came = input.came;
-  grew = grew;
-  whole = λ more can. same_output select before now bytes more input can ∙ sym is;
+  wrote = record {
+    bytes = bytes;
+    text = text;
+    failed = [];
+    few = none_is_few f g [] refl;
+    came = input.came;
+    grew = grew;
+    whole = λ more later can. same_output select before now bytes more input can ∙ sym is;
+  };
 }
 
 pub two_parts : (n : ℕ) (text : List ℕ) → text ≡ take n text ++ drop n text
 two_parts n text = grind (arith, common_steps)
 
 -- a reply of which the first bytes were written
-pub wrote_part : (select : List ℕ) (contents : Contents) (faults status : ℕ) (before now : SourceView) (w v : Option (List ℕ)) (bytes text : List ℕ) → IsInput before now bytes → record { text = text; status = status } ≡ ask_output select bytes → GrewSome w v text → WrotePart (Ask select) contents before now w v faults
-wrote_part select contents faults status before now w v bytes text input is some = record {
+pub wrote_part : (select : List ℕ) (contents : Contents) (f g : List ℕ) (status : ℕ) (before now : SourceView) (w v : Option (List ℕ)) (bytes text : List ℕ) → IsInput before now bytes → record { text = text; status = status } ≡ ask_output select bytes → GrewSome w v text → RanInPart (Ask select) contents before now w v f g
+wrote_part select contents f g status before now w v bytes text input is some = record {
   files = no_files;
   given = tt;
-  bytes = bytes;
-  text = take some.count text;
-  failed = [];
-  few = omega arith;
-  came = input.came;
-  grew = some.grew;
-  begins = λ more can. record { tail = drop some.count text; part = ap (λ (o : Output). o.text) (same_output select before now bytes more input can ∙ sym is) ∙ two_parts some.count text };
+  wrote = record {
+    bytes = bytes;
+    text = take some.count text;
+    failed = [];
+    few = none_is_few f g [] refl;
+    came = input.came;
+    grew = some.grew;
+    begins = λ more later can. record { tail = drop some.count text; part = ap (λ (o : Output). o.text) (same_output select before now bytes more input can ∙ sym is) ∙ two_parts some.count text };
+  };
 }
 
 -- a reply has status 0 or 65

@@ -2,6 +2,7 @@
 use Rattle.std.proofs.Common.{◌≡◌, Option, subst, sym}
 use Rattle.std.specs.Prelude.{Some, IfSome}
 use Rattle.pdq_session.proofs.LegalScripts.{scripts_keep_rules}
+use Rattle.pdq_session.proofs.PrintedScripts.{texts_keep_limits}
 use Rattle.pdqd.specs.declared.words.Form.{Form}
 use Rattle.pdqd.specs.declared.words.Form.TheVariants.{Script, Ask, AskTables}
 use Rattle.pdqd.specs.Words.{Asks, IsInRange, IsQuestion}
@@ -10,7 +11,10 @@ use Rattle.pdqd.specs.Run.{KeepsItsRules}
 form_keeps_rules : (form : Form) → IsInRange form → KeepsItsRules form
 form_keeps_rules (Ask select) range = tt
 form_keeps_rules (AskTables select schema) range = tt
-form_keeps_rules (Script config opening) range = λ lines. scripts_keep_rules config lines range.0
+form_keeps_rules (Script config opening) range = record {
+  managed = λ failed lines. scripts_keep_rules config failed lines range.0;
+  printed = λ bytes failed. texts_keep_limits config bytes failed range.0;
+}
 
 pub keeps_rules : (o : Option Form) (form : Form) → Some form ≡ o → IsInRange form → IfSome o KeepsItsRules
 keeps_rules o form is range = let P : Option Form → Type 0 = λ x. IfSome x KeepsItsRules in subst P is (form_keeps_rules form range)

@@ -4,13 +4,12 @@ use Rattle.std.proofs.lemmas.List.{append-nil}
 use Rattle.pdq_edge.specs.Bytes.{Grows}
 use Rattle.pdq_edge.specs.Causes.{Rose}
 use Rattle.pdq_model.specs.Configuration.{Configuration}
-use Rattle.pdq_model.specs.State.{State}
-use Rattle.pdq_session.specs.Progress.{SourceView, Wrote, WroteSome}
-use Rattle.pdq_session.specs.ScriptTranscript.{Out, ScriptEnding, script_transcript}
+use Rattle.pdq_session.specs.Progress.{NoStoreFails, SourceView, WroteScript, WroteSome}
+use Rattle.pdq_session.specs.ScriptTranscript.{Failures, Out, ScriptEnding, ScriptState, script_transcript}
 use Rattle.pdqd.specs.declared.words.Form.TheVariants.{Script}
 use Rattle.pdqd.specs.Files.{Contents, GivenFiles}
 use Rattle.pdqd.specs.Output.{Output}
-use Rattle.pdqd.specs.Run.{status_of, WroteAll, WrotePart, IsWhole}
+use Rattle.pdqd.specs.Run.{status_of, FewFailed, RanWhole, RanInPart, IsWhole}
 
 -- what a sink told stays what it grew by
 grows_same : (w0 w v : Option (List ℕ)) (text : List ℕ) → v ≡ w → Grows w0 w text → Grows w0 v text
@@ -24,47 +23,57 @@ output_of out = record { text = out.text; status = status_of out.ending }
 pub no_files : GivenFiles
 no_files = record { schema = []; tables = [] }
 
+-- lines at which no store failed are few
+pub none_is_few : (f g : List ℕ) (failed : Failures) → NoStoreFails failed → FewFailed f g failed
+none_is_few f g failed none below = rw none (omega arith)
+
 -- a script that wrote its whole transcript is a run that wrote all
-pub wrote_all : (c : Configuration) (contents : Contents) (p faults status : ℕ) (before now : SourceView) (w0 w v : Option (List ℕ)) (ending : ScriptEnding) (state : State) → Wrote before now w0 w (script_transcript c) ending state → v ≡ w → status ≡ status_of ending → WroteAll (Script c p) contents before now w0 v faults status
+pub wrote_all : (c : Configuration) (contents : Contents) (p : ℕ) (f g : List ℕ) (status : ℕ) (before now : SourceView) (w0 w v : Option (List ℕ)) (ending : ScriptEnding) (state : ScriptState) → WroteScript before now w0 w (script_transcript c) ending state → v ≡ w → status ≡ status_of ending → RanWhole (Script c p) contents before now w0 v f g status
 unfolding output_of
-wrote_all c contents p faults status before now w0 w v ending state wrote same is = record {
+wrote_all c contents p f g status before now w0 w v ending state wrote same is = record {
   files = no_files;
   given = tt;
-  bytes = wrote.bytes;
-  text = wrote.text;
-  failed = [];
-  few = omega arith;
-  came = wrote.came;
-  grew = grows_same w0 w v wrote.text same wrote.grew;
-  whole = λ more follows. ap output_of (wrote.whole more follows) ∙ ap (λ n. record { text = wrote.text; status = n }) (sym is);
+  wrote = record {
+    bytes = wrote.bytes;
+    failed = wrote.failed;
+    text = wrote.text;
+    few = none_is_few f g wrote.failed wrote.few;
+    came = wrote.came;
+    grew = grows_same w0 w v wrote.text same wrote.grew;
+    whole = λ more later follows. ap output_of (wrote.whole more later follows) ∙ ap (λ n. record { text = wrote.text; status = n }) (sym is);
+  };
 }
 
 -- and a run that wrote a part, which is all of it
-pub wrote_all_part : (c : Configuration) (contents : Contents) (p faults : ℕ) (before now : SourceView) (w0 w v : Option (List ℕ)) (ending : ScriptEnding) (state : State) → Wrote before now w0 w (script_transcript c) ending state → v ≡ w → WrotePart (Script c p) contents before now w0 v faults
-wrote_all_part c contents p faults before now w0 w v ending state wrote same = record {
+pub wrote_all_part : (c : Configuration) (contents : Contents) (p : ℕ) (f g : List ℕ) (before now : SourceView) (w0 w v : Option (List ℕ)) (ending : ScriptEnding) (state : ScriptState) → WroteScript before now w0 w (script_transcript c) ending state → v ≡ w → RanInPart (Script c p) contents before now w0 v f g
+wrote_all_part c contents p f g before now w0 w v ending state wrote same = record {
   files = no_files;
   given = tt;
-  bytes = wrote.bytes;
-  text = wrote.text;
-  failed = [];
-  few = omega arith;
-  came = wrote.came;
-  grew = grows_same w0 w v wrote.text same wrote.grew;
-  begins = λ more follows. record { tail = []; part = ap (λ (o : Out). o.text) (wrote.whole more follows) ∙ sym (append-nil wrote.text) };
+  wrote = record {
+    bytes = wrote.bytes;
+    failed = wrote.failed;
+    text = wrote.text;
+    few = none_is_few f g wrote.failed wrote.few;
+    came = wrote.came;
+    grew = grows_same w0 w v wrote.text same wrote.grew;
+    begins = λ more later follows. record { tail = []; part = ap (λ (o : Out). o.text) (wrote.whole more later follows) ∙ sym (append-nil wrote.text) };
+  };
 }
 
 -- a script that was cut off is a run that was cut off
-pub wrote_some_part : (c : Configuration) (contents : Contents) (p faults : ℕ) (before now : SourceView) (w0 w : Option (List ℕ)) → WroteSome before now w0 w (script_transcript c) → WrotePart (Script c p) contents before now w0 w faults
-wrote_some_part c contents p faults before now w0 w wrote = record {
+pub wrote_some_part : (c : Configuration) (contents : Contents) (p : ℕ) (f g : List ℕ) (before now : SourceView) (w0 w : Option (List ℕ)) (state : ScriptState) → WroteSome before now w0 w (script_transcript c) state → RanInPart (Script c p) contents before now w0 w f g
+wrote_some_part c contents p f g before now w0 w state some = let wrote = some.wrote in record {
   files = no_files;
   given = tt;
-  bytes = wrote.bytes;
-  text = wrote.text;
-  failed = [];
-  few = omega arith;
-  came = wrote.came;
-  grew = wrote.grew;
-  begins = wrote.begins;
+  wrote = record {
+    bytes = wrote.bytes;
+    failed = wrote.failed;
+    text = wrote.text;
+    few = none_is_few f g wrote.failed wrote.few;
+    came = wrote.came;
+    grew = wrote.grew;
+    begins = wrote.begins;
+  };
 }
 
 -- a status that a flush may have turned into 74, and that tells of a whole text, is as it was
@@ -73,6 +82,6 @@ whole_kept r status (inl e) is = e
 whole_kept r status (inr e) (inl z) = absurd (omega arith)
 whole_kept r status (inr e) (inr z) = absurd (omega arith)
 
--- a count that rose later rose from before too
-pub rose_since : (a m b : ℕ) → a ≤ m → Rose m b → Rose a b
-rose_since a m b later rose = omega arith
+-- a count that stayed and then rose has risen
+pub rose_since : (a m b : ℕ) → m ≡ a → Rose m b → Rose a b
+rose_since a m b stayed rose = let P : ℕ → Type 0 = λ n. Rose n b in subst P stayed rose

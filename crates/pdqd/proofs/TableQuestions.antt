@@ -20,11 +20,11 @@ use Rattle.pdqd.specs.declared.words.Form.TheVariants.{Script, Ask, AskTables}
 use Rattle.pdqd.specs.Ask.{answer_over_tables, answer_with_schema, refused, tables_output}
 use Rattle.pdqd.specs.Files.{AllTold, Contents, FilesGive, GivenFiles, HasLongFile, TablesGive, Told}
 use Rattle.pdqd.specs.Output.{Output}
-use Rattle.pdqd.specs.Run.{LeavesUnread, WereGiven, WroteAll, WrotePart, run_output}
+use Rattle.pdqd.specs.Run.{LeavesUnread, RanInPart, RanWhole, WereGiven, run_output}
 use Rattle.pdqd.proofs.FilesRead.{LongBytes, are_told, files_told, long_bytes, tables_told_same}
 use Rattle.pdqd.proofs.Inputs.{took_none}
 use Rattle.pdqd.proofs.Questions.{IsReply, tables_is, two_parts}
-use Rattle.pdqd.proofs.Statuses.{no_files}
+use Rattle.pdqd.proofs.Statuses.{no_files, none_is_few}
 
 -- files that a form may have been given
 files_for : Form → Contents → GivenFiles
@@ -39,22 +39,24 @@ were_given (Ask select) contents = tt
 were_given (AskTables select schema) contents = are_told contents schema
 
 -- nothing was read of the source, and nothing was written
-pub nothing_done : (form : Form) (contents : Contents) (faults : ℕ) (source : SourceView) (w : Option (List ℕ)) → WrotePart form contents source source w w faults
-nothing_done form contents faults source w = record {
+pub nothing_done : (form : Form) (contents : Contents) (f g : List ℕ) (source : SourceView) (w : Option (List ℕ)) → RanInPart form contents source source w w f g
+nothing_done form contents f g source w = record {
   files = files_for form contents;
   given = were_given form contents;
-  bytes = [];
-  text = [];
-  failed = [];
-  few = omega arith;
-  came = took_none source.left source.taken;
-  grew = grows_none w;
-  begins = λ more can. record { tail = (run_output form (files_for form contents) more []).text; part = refl };
+  wrote = record {
+    bytes = [];
+    text = [];
+    failed = [];
+    few = none_is_few f g [] refl;
+    came = took_none source.left source.taken;
+    grew = grows_none w;
+    begins = λ more later can. record { tail = (run_output form (files_for form contents) more later).text; part = refl };
+  };
 }
 
-pub nothing_done_by : (o : Option Form) (contents : Contents) (faults : ℕ) (source : SourceView) (w : Option (List ℕ)) → IfSome o (λ form. WrotePart form contents source source w w faults)
-nothing_done_by None contents faults source w = tt
-nothing_done_by (Some form) contents faults source w = nothing_done form contents faults source w
+pub nothing_done_by : (o : Option Form) (contents : Contents) (f g : List ℕ) (source : SourceView) (w : Option (List ℕ)) → IfSome o (λ form. RanInPart form contents source source w w f g)
+nothing_done_by None contents f g source w = tt
+nothing_done_by (Some form) contents f g source w = nothing_done form contents f g source w
 
 left_unread : (form : Form) (source : SourceView) → LeavesUnread form source source
 left_unread (Script config opening) source = tt
@@ -121,29 +123,33 @@ pub tables_reply_status : (c : Contents) (select name : List ℕ) (status : ℕ)
 tables_reply_status c select name status text gives = subst IsReply (sym gives.is) (files_is select gives.files.schema gives.files.tables)
 
 -- a reply that was written whole
-pub wrote_tables : (c : Contents) (select name : List ℕ) (faults status : ℕ) (source : SourceView) (w v : Option (List ℕ)) (text : List ℕ) → FilesGive c select name (record { text = text; status = status }) → Grows w v text → WroteAll (AskTables select name) c source source w v faults status
-wrote_tables c select name faults status source w v text gives grew = record {
+pub wrote_tables : (c : Contents) (select name : List ℕ) (f g : List ℕ) (status : ℕ) (source : SourceView) (w v : Option (List ℕ)) (text : List ℕ) → FilesGive c select name (record { text = text; status = status }) → Grows w v text → RanWhole (AskTables select name) c source source w v f g status
+wrote_tables c select name f g status source w v text gives grew = record {
   files = gives.files;
   given = gives.told;
-  bytes = [];
-  text = text;
-  failed = [];
-  few = omega arith;
-  came = took_none source.left source.taken;
-  grew = grew;
-  whole = λ more can. sym gives.is;
+  wrote = record {
+    bytes = [];
+    text = text;
+    failed = [];
+    few = none_is_few f g [] refl;
+    came = took_none source.left source.taken;
+    grew = grew;
+    whole = λ more later can. sym gives.is;
+  };
 }
 
 -- a reply of which the first bytes were written
-pub wrote_tables_part : (c : Contents) (select name : List ℕ) (faults status : ℕ) (source : SourceView) (w v : Option (List ℕ)) (text : List ℕ) → FilesGive c select name (record { text = text; status = status }) → GrewSome w v text → WrotePart (AskTables select name) c source source w v faults
-wrote_tables_part c select name faults status source w v text gives some = record {
+pub wrote_tables_part : (c : Contents) (select name : List ℕ) (f g : List ℕ) (status : ℕ) (source : SourceView) (w v : Option (List ℕ)) (text : List ℕ) → FilesGive c select name (record { text = text; status = status }) → GrewSome w v text → RanInPart (AskTables select name) c source source w v f g
+wrote_tables_part c select name f g status source w v text gives some = record {
   files = gives.files;
   given = gives.told;
-  bytes = [];
-  text = take some.count text;
-  failed = [];
-  few = omega arith;
-  came = took_none source.left source.taken;
-  grew = some.grew;
-  begins = λ more can. record { tail = drop some.count text; part = ap (λ (o : Output). o.text) (sym gives.is) ∙ two_parts some.count text };
+  wrote = record {
+    bytes = [];
+    text = take some.count text;
+    failed = [];
+    few = none_is_few f g [] refl;
+    came = took_none source.left source.taken;
+    grew = some.grew;
+    begins = λ more later can. record { tail = drop some.count text; part = ap (λ (o : Output). o.text) (sym gives.is) ∙ two_parts some.count text };
+  };
 }

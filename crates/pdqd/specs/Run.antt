@@ -1,13 +1,13 @@
 -- What a run writes, and the status that it ends with.
-use Rattle.std.specs.Prelude.{⊤, ℕ, ◌≡◌, ◌≤◌, ◌⊎◌, ◌++◌, List, Bool, IsTrue, Option, length}
-use Rattle.pdq_edge.specs.Bytes.{Grows}
+use Rattle.std.specs.Prelude.{⊤, ℕ, ◌≡◌, ◌≢◌, ◌<◌, ◌≤◌, ◌-◌, ◌^◌, ◌⊎◌, List, Bool, All, IsTrue, Option, slice_index, sum}
+use Rattle.pdq_edge.specs.Causes.{Rose}
 use Rattle.pdq_model.specs.Configuration.{Configuration}
-use Rattle.pdq_model.specs.State.{State}
 use Rattle.pdq_session.specs.declared.scripts.ScriptEnd.{ScriptEnd}
-use Rattle.pdq_session.specs.Progress.{SourceView, Came, CanFollow, Begins, Ends}
+use Rattle.pdq_session.specs.Progress.{SourceView, Ends, WroteAll, WrotePart}
 use Rattle.pdq_base.specs.Lines.{InputLine}
+use Rattle.pdq_session.specs.PrintedLines.{PrintsWithinLimits}
 use Rattle.pdq_session.specs.ScriptLaws.{KeepsRules, state_after_lines}
-use Rattle.pdq_session.specs.ScriptTranscript.{ScriptEnding, AtEnd, AtFault, script_transcript, starting_state}
+use Rattle.pdq_session.specs.ScriptTranscript.{Failures, ScriptEnding, ScriptState, AtEnd, AtFault, failures_in, script_transcript, starting_state}
 use Rattle.pdqd.specs.declared.words.Form.{Form}
 use Rattle.pdqd.specs.declared.words.Form.TheVariants.{Script, Ask, AskTables}
 use Rattle.pdqd.specs.Output.{Output}
@@ -18,14 +18,17 @@ abbrev pub status_of : ScriptEnding → ℕ
 status_of AtEnd = 0
 status_of AtFault = 65
 
--- what a run of this form writes where it is given these files and these bytes of its source, and these queries failed by a store; no command that uses a store is built yet
-abbrev pub run_output : Form → GivenFiles → List ℕ → List ℕ → Output
+-- what a run of this form writes where it is given these files and these bytes of its source, and stores fail at these of its lines; no command that uses a store is built yet
+abbrev pub run_output : Form → GivenFiles → List ℕ → Failures → Output
 run_output (Script config opening) files bytes failed = record {
-  text = (script_transcript config bytes).text;
-  status = status_of (script_transcript config bytes).ending;
+  text = (script_transcript config bytes failed).text;
+  status = status_of (script_transcript config bytes failed).ending;
 }
 run_output (Ask select) files bytes failed = ask_output select bytes
 run_output (AskTables select schema) files bytes failed = tables_output select files.schema files.tables
+
+abbrev pub run_text : Form → GivenFiles → List ℕ → Failures → List ℕ
+run_text form files bytes failed = (run_output form files bytes failed).text
 
 -- these are the files that a run of this form reads, where they are told; the other forms read none
 abbrev pub WereGiven : Form → Contents → GivenFiles → Type 0
@@ -33,29 +36,21 @@ WereGiven (Script config opening) contents files = ⊤
 WereGiven (Ask select) contents files = ⊤
 WereGiven (AskTables select schema) contents files = AreTold contents schema files
 
--- the files are as they are told and the source gave these bytes, and whatever can follow them, the whole text of the run was written and this is its status; no more queries failed than the stores counted faults
-pub record WroteAll (form : Form) (contents : Contents) (before now : SourceView) (written0 written : Option (List ℕ)) (faults status : ℕ) : Type 0 where
-  pub files : GivenFiles
-  pub given : WereGiven form contents files
-  pub bytes : List ℕ
-  pub text : List ℕ
-  pub failed : List ℕ
-  pub few : length failed ≤ faults
-  pub came : Came before now bytes
-  pub grew : Grows written0 written text
-  pub whole : (more : List ℕ) → CanFollow before now more → run_output form files (bytes ++ more) failed ≡ record { text = text; status = status }
+-- at no more lines did a store fail than the counts of the stores rose together, where each of them is below the end of its 64 bits
+abbrev pub FewFailed : List ℕ → List ℕ → Failures → Type 0
+FewFailed before now failed = All (λ count. count < 2 ^ 64 - 1) now → failures_in failed ≤ sum now - sum before
 
--- the files are as they are told and the source gave these bytes, and whatever can follow them, what was written begins the text of the run
-pub record WrotePart (form : Form) (contents : Contents) (before now : SourceView) (written0 written : Option (List ℕ)) (faults : ℕ) : Type 0 where
+-- the files are as they are told, and whatever can follow what the source gave, the whole text of the run was written and this is its status
+pub record RanWhole (form : Form) (contents : Contents) (before now : SourceView) (written0 written : Option (List ℕ)) (faults0 faults : List ℕ) (status : ℕ) : Type 0 where
   pub files : GivenFiles
   pub given : WereGiven form contents files
-  pub bytes : List ℕ
-  pub text : List ℕ
-  pub failed : List ℕ
-  pub few : length failed ≤ faults
-  pub came : Came before now bytes
-  pub grew : Grows written0 written text
-  pub begins : (more : List ℕ) → CanFollow before now more → Begins (run_output form files (bytes ++ more) failed).text text
+  pub wrote : WroteAll before now written0 written (FewFailed faults0 faults) (run_output form files) (λ text. record { text = text; status = status })
+
+-- the files are as they are told, and whatever can follow what the source gave, what was written begins the text of the run
+pub record RanInPart (form : Form) (contents : Contents) (before now : SourceView) (written0 written : Option (List ℕ)) (faults0 faults : List ℕ) : Type 0 where
+  pub files : GivenFiles
+  pub given : WereGiven form contents files
+  pub wrote : WrotePart before now written0 written (FewFailed faults0 faults) (run_text form files)
 
 -- a form that reads its source has come to the end of it
 abbrev pub HasEnded : Form → Bool → Type 0
@@ -80,13 +75,38 @@ IsCutOff n = (n ≡ 66) ⊎ (n ≡ 71) ⊎ (n ≡ 74)
 abbrev pub IsStatus : ℕ → Type 0
 IsStatus n = (n ≡ 64) ⊎ IsWhole n ⊎ IsCutOff n
 
--- how a script over a manager of its own ended; in which state the manager was is left open
+-- the counts of the faults of the source, of the files and of the sink
+pub record FaultCounts : Type 0 where
+  pub source : ℕ
+  pub files : ℕ
+  pub sink : ℕ
+
+-- with 66 the count of the source or that of the files rose, and with 74 that of the sink; no other count did, and with no other status did any
+pub record TellsFaults (status : ℕ) (before now : FaultCounts) : Type 0 where
+  pub read : status ≡ 66 → Rose before.source now.source ⊎ Rose before.files now.files
+  pub write : status ≡ 74 → Rose before.sink now.sink
+  pub source_stays : status ≢ 66 → now.source ≡ before.source
+  pub files_stay : status ≢ 66 → now.files ≡ before.files
+  pub sink_stays : status ≢ 74 → now.sink ≡ before.sink
+
+-- each count has stayed or risen, in its place
+abbrev pub NoneFell : List ℕ → List ℕ → Type 0
+NoneFell before now = (place : ℕ) → slice_index before place ≤ slice_index now place
+
+-- how a script over a manager of its own ended; what it left there is left open
 pub record RunsScript (end : ScriptEnd) (config : Configuration) (before now : SourceView) (written0 written : Option (List ℕ)) : Type 0 where
-  pub state : State
+  pub state : ScriptState
   pub ends : Ends end before now written0 written (script_transcript config) state
 
--- whatever the lines of its script, after each of them the manager of such a run keeps its rules: it gives no more than there is, is at rest, overtakes no query more than 32 times, and has come there by a legal history
+-- what is true of every script over a manager of this configuration
+pub record KeepsScriptRules (config : Configuration) : Type 0 where
+  -- after each line the manager keeps its rules: it gives no more than there is, is at rest, overtakes no query more than 32 times, has come there by the legal history that its journal is, and has admitted heads alone, each past all gates
+  pub managed : (failed : Failures) (lines : List InputLine) → KeepsRules config (state_after_lines (starting_state config) failed lines)
+  -- after each printed line no more quanta and scan threads are held than there are, as the lines themselves tell
+  pub printed : (bytes : List ℕ) (failed : Failures) → PrintsWithinLimits config (script_transcript config bytes failed).text
+
+-- a run of a script keeps the rules of scripts
 abbrev pub KeepsItsRules : Form → Type 0
 KeepsItsRules (Ask select) = ⊤
 KeepsItsRules (AskTables select schema) = ⊤
-KeepsItsRules (Script config opening) = (lines : List InputLine) → KeepsRules config (state_after_lines (starting_state config) lines).manager
+KeepsItsRules (Script config opening) = KeepsScriptRules config

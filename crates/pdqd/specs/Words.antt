@@ -23,9 +23,13 @@ is_number w = has_digits w && not (has_leading_zero w)
 abbrev pub number_of : List ℕ → Option ℕ
 number_of w = if is_number w then Some (digits_value 10 w) else None
 
+-- DS_NONPDQ_QUERY_MEM when a script begins, in KB
+abbrev pub nonpdq_kb : ℕ
+nonpdq_kb = 128
+
 -- a script of a valid configuration and an opening priority of at most 100, in the order T Q S m p
 unfoldable pub script_of : Option ℕ → Option ℕ → Option ℕ → Option ℕ → Option ℕ → Option Form
-script_of (Some t) (Some q) (Some s) (Some m) (Some p) = if is_valid (configuration m t q s) && nat_le p 100 then Some (Script (configuration m t q s) p) else None
+script_of (Some t) (Some q) (Some s) (Some m) (Some p) = if is_valid (configuration m t q s nonpdq_kb) && nat_le p 100 then Some (Script (configuration m t q s nonpdq_kb) p) else None
 script_of t q s m p = None
 
 abbrev pub is_script : List ℕ → Bool

@@ -1,5 +1,5 @@
 //! One question on the tables at hand.
-ghost use Rattle.std.specs.Prelude.{◌≡◌, ◌≢◌, ◌≤◌, ◌∷◌, [], All, AllPairs, IfOk, Ok, IsErrOf, length, map};
+ghost use Rattle.std.specs.Prelude.{◌≡◌, ◌≢◌, ◌≤◌, ◌∷◌, [], All, AllPairs, IfOk, Ok, OnOk, IsErrOf, length, map};
 ghost use Rattle.pdq_edge.specs.Causes.{Rose};
 ghost use Rattle.pdq_schema.specs.SchemaFile.{schema_of};
 ghost use Rattle.pdq_table.specs.Loading.{contents_of, tables_loaded};
@@ -226,7 +226,9 @@ fn reply_over_files<F: Files>(
 ) -> Result<Reply, InputFault>
     requires size { length select.now ≤ 8192 }
     ensures reply { IfOk result (λ r. TablesGive (F.contents files.old) select.now (Ok schema.now) (output_of r)) }
+    ensures passed { OnOk result (F.faults files.new ≡ F.faults files.old) }
     ensures failed { IsErrOf result InputFault.Failed → Rose (F.faults files.old) (F.faults files.new) }
+    ensures memory { IsErrOf result InputFault.Memory → F.faults files.new ≡ F.faults files.old }
 {
     match read_table_files(alloc, schema, files) {
         Ok(tables) => Ok(reply_over_tables(alloc, select, schema, tables)?),
@@ -267,7 +269,9 @@ fn reply_with_schema<F: Files>(
 ) -> Result<Reply, InputFault>
     requires size { length select.now ≤ 8192 }
     ensures reply { IfOk result (λ r. TablesGive (F.contents files.old) select.now (schema_of bytes.items) (output_of r)) }
+    ensures passed { OnOk result (F.faults files.new ≡ F.faults files.old) }
     ensures failed { IsErrOf result InputFault.Failed → Rose (F.faults files.old) (F.faults files.new) }
+    ensures memory { IsErrOf result InputFault.Memory → F.faults files.new ≡ F.faults files.old }
 {
     let schema = read_schema(alloc, &bytes);
     drop(bytes);
@@ -287,7 +291,9 @@ pub(crate) fn reply_from_files<F: Files>(
 ) -> Result<Reply, InputFault>
     requires size { length select.now ≤ 8192 }
     ensures reply { IfOk result (λ r. FilesGive (F.contents files.old) select.now schema.now (output_of r)) }
+    ensures passed { OnOk result (F.faults files.new ≡ F.faults files.old) }
     ensures failed { IsErrOf result InputFault.Failed → Rose (F.faults files.old) (F.faults files.new) }
+    ensures memory { IsErrOf result InputFault.Memory → F.faults files.new ≡ F.faults files.old }
 {
     match files.read_whole(alloc, schema, MOST_SCHEMA_BYTES) {
         Ok(bytes) => reply_with_schema(alloc, select, bytes, files),

@@ -1,5 +1,5 @@
 //! The input of a command, read as one.
-ghost use Rattle.std.specs.Prelude.{◌≡◌, ◌≤◌, ◌++◌, IfOk, IfErr, IsTrue, take};
+ghost use Rattle.std.specs.Prelude.{◌≡◌, ◌≤◌, ◌++◌, IfOk, IfErr, IsErrOf, IsTrue, OnOk, take};
 ghost use Rattle.pdq_edge.specs.Causes.{Rose};
 ghost use Rattle.pdq_session.specs.Progress.{Came, source_view};
 ghost use Rattle.pdqd.specs.Input.{GaveSome, IsInput};
@@ -37,8 +37,9 @@ impl From<Memory> for InputFault {
 pub(crate) fn read_input<So: Source>(alloc: Global, source: &mut So) -> Result<Vec<u8>, InputFault>
     ensures read { IfOk result (λ bytes. IsInput (source_view So.left So.taken So.ended source.old) (source_view So.left So.taken So.ended source.new) bytes.items) }
     ensures some { IfErr result (λ _. GaveSome (source_view So.left So.taken So.ended source.old) (source_view So.left So.taken So.ended source.new)) }
-    ensures cause { IfErr result (λ e. e ≡ InputFault.Failed → Rose (So.faults source.old) (So.faults source.new)) }
-    ensures later { So.faults source.old ≤ So.faults source.new }
+    ensures passed { OnOk result (So.faults source.new ≡ So.faults source.old) }
+    ensures memory { IsErrOf result InputFault.Memory → So.faults source.new ≡ So.faults source.old }
+    ensures failed { IsErrOf result InputFault.Failed → Rose (So.faults source.old) (So.faults source.new) }
 {
     let mut bytes = Vec::new(alloc);
     'reads: while bytes.len() <= MOST_BYTES {

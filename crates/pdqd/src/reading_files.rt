@@ -1,5 +1,5 @@
 //! The files of the tables of a schema.
-ghost use Rattle.std.specs.Prelude.{◌≡◌, ◌<◌, ◌≤◌, ℕ, List, IfErr, IfOk, IfSome, IsErrOf, OnOk, length};
+ghost use Rattle.std.specs.Prelude.{◌≡◌, ◌≢◌, ◌<◌, ◌≤◌, ℕ, List, IfErr, IfOk, IfSome, IsErrOf, OnOk, length};
 ghost use Rattle.pdq_edge.specs.Causes.{Rose};
 ghost use Rattle.pdq_table.specs.Loading.{contents_of};
 ghost use Rattle.pdqd.specs.Files.{AddsFile, AllTold, IsFirstLong};
@@ -40,7 +40,9 @@ fn add_table_file<F: Files>(
     ensures added { OnOk result (AddsFile (F.contents files.old) name.now (contents_of tables.old.items) (contents_of tables.new.items)) }
     ensures too_long { IsErrOf result FileFault.TooLong → IfSome (F.contents files.old name.now) (λ bytes. 134217728 < length bytes) }
     ensures same { (other : List ℕ) → F.contents files.new other ≡ F.contents files.old other }
-    ensures later { F.faults files.old ≤ F.faults files.new }
+    ensures passed { OnOk result (F.faults files.new ≡ F.faults files.old) }
+    ensures too_long_faults { IsErrOf result FileFault.TooLong → F.faults files.new ≡ F.faults files.old }
+    ensures memory { IsErrOf result FileFault.Memory → F.faults files.new ≡ F.faults files.old }
     ensures failed { IsErrOf result FileFault.Failed → Rose (F.faults files.old) (F.faults files.new) }
 {
     let bytes = files.read_whole(alloc, name, MOST_BYTES)?;
@@ -59,8 +61,9 @@ pub(crate) fn read_table_files<F: Files>(
     ensures told { IfOk result (λ tables. AllTold (F.contents files.old) schema.now.files (contents_of tables.items)) }
     ensures count { IfOk result (λ tables. length tables.items ≡ length schema.now.shapes) }
     ensures too_long { IfErr result (IsFirstLong (F.contents files.old) schema.now.files) }
-    ensures later { F.faults files.old ≤ F.faults files.new }
+    ensures passed { OnOk result (F.faults files.new ≡ F.faults files.old) }
     ensures failed { IsErrOf result TablesFault.Failed → Rose (F.faults files.old) (F.faults files.new) }
+    ensures others { IfErr result (λ e. e ≢ TablesFault.Failed → F.faults files.new ≡ F.faults files.old) }
 {
     let mut tables = Vec::new(alloc);
     'files: for table in 0..table_count(schema) {

@@ -1,12 +1,12 @@
 //! One command, from the source to the sink.
-ghost use Rattle.std.specs.Prelude.{◌≡◌, ◌≢◌, ◌≤◌, ◌-◌, ◌↔◌, ◌⊎◌, ℕ, List, Option, None, IfSome, IsTrue, length, map, string_bytes, sum_by, vec_len};
+ghost use Rattle.std.specs.Prelude.{◌≡◌, ◌≢◌, ◌≤◌, ◌↔◌, ◌⊎◌, ℕ, List, Option, None, IfSome, IsTrue, length, map, string_bytes, vec_len};
 ghost use Rattle.pdq_edge.specs.Bytes.{Grows, GrewSome};
 ghost use Rattle.pdq_edge.specs.Causes.{Rose};
-ghost use Rattle.pdq_model.specs.State.{opening_state};
 ghost use Rattle.pdq_session.specs.Progress.{SourceView, source_view};
+ghost use Rattle.pdq_session.specs.ScriptTranscript.{opening_script, script_state};
 ghost use Rattle.pdqd.specs.Files.{Contents};
 ghost use Rattle.pdqd.specs.Words.{form_of, IsInRange};
-ghost use Rattle.pdqd.specs.Run.{HasEnded, IsStatus, IsWhole, IsCutOff, KeepsItsRules, LeavesUnread, RunsScript, WroteAll, WrotePart};
+ghost use Rattle.pdqd.specs.Run.{HasEnded, IsStatus, IsWhole, IsCutOff, KeepsItsRules, LeavesUnread, NoneFell, RanInPart, RanWhole, RunsScript, TellsFaults};
 
 use crate::asking::{Reply, reply_from_files, reply_to};
 use crate::input::{InputFault, read_input};
@@ -37,7 +37,7 @@ const NO_OUTPUT: u8 = 74;
 /// A manager without an entry, over a pool of its own; None for want of memory.
 fn manager_of(alloc: Global, config: Config) -> Option<Manager>
     ensures opening { IfSome result (λ m. m.opening ≡ config) }
-    ensures fresh { IfSome result (λ m. m.state ≡ opening_state config) }
+    ensures fresh { IfSome result (λ m. script_state m ≡ opening_script config) }
 {
     let Ok(pool) = Pool::new(alloc, config.frames_per_quantum(), config.max_queries()) else {
         return None;
@@ -52,13 +52,14 @@ fn manager_of(alloc: Global, config: Config) -> Option<Manager>
 fn flushed<Si: Sink>(sink: &mut Si, status: u8) -> u8
     ensures status { (result ≡ status) ⊎ (result ≡ 74) }
     ensures written { Si.written sink.new ≡ Si.written sink.old }
+    ensures flushed { result ≢ 74 → Si.flushed sink.new ≡ Si.written sink.new }
     ensures write { result ≢ status → Rose (Si.faults sink.old) (Si.faults sink.new) }
-    ensures write_later { Si.faults sink.old ≤ Si.faults sink.new }
+    ensures write_none { result ≢ 74 → Si.faults sink.new ≡ Si.faults sink.old }
 {
-    match sink.flush() {
-        Ok(()) => status,
-        Err(_) => NO_OUTPUT,
-    }
+    let Ok(()) = sink.flush() else {
+        return NO_OUTPUT;
+    };
+    status
 }
 
 /// Runs a script over a manager of its own.
@@ -70,8 +71,9 @@ fn run_script<So: Source, Si: Sink>(
 ) -> ScriptEnd
     ensures ends { RunsScript result config (source_view So.left So.taken So.ended source.old) (source_view So.left So.taken So.ended source.new) (Si.written sink.old) (Si.written sink.new) }
     ensures read { result ≡ ScriptEnd.ReadFault → Rose (So.faults source.old) (So.faults source.new) }
+    ensures read_none { result ≢ ScriptEnd.ReadFault → So.faults source.new ≡ So.faults source.old }
     ensures write { result ≡ ScriptEnd.WriteFault → Rose (Si.faults sink.old) (Si.faults sink.new) }
-    ensures write_later { Si.faults sink.old ≤ Si.faults sink.new }
+    ensures write_none { result ≢ ScriptEnd.WriteFault → Si.faults sink.new ≡ Si.faults sink.old }
 {
     let Some(mut manager) = manager_of(alloc, config) else {
         return ScriptEnd::Memory;
@@ -89,13 +91,16 @@ fn script_status<So: Source, Si: Sink>(
     sink: &mut Si,
 ) -> u8
     ensures known { (IsWhole result) ⊎ (IsCutOff result) }
-    ensures whole { (contents : Contents) (opening faults : ℕ) → IsWhole result → WroteAll (Form.Script config opening) contents
-        (source_view So.left So.taken So.ended source.old) (source_view So.left So.taken So.ended source.new) (Si.written sink.old) (Si.written sink.new) faults result }
-    ensures part { (contents : Contents) (opening faults : ℕ) → IsCutOff result → WrotePart (Form.Script config opening) contents
-        (source_view So.left So.taken So.ended source.old) (source_view So.left So.taken So.ended source.new) (Si.written sink.old) (Si.written sink.new) faults }
+    ensures whole { (contents : Contents) (opening : ℕ) (faults0 faults : List ℕ) → IsWhole result → RanWhole (Form.Script config opening) contents
+        (source_view So.left So.taken So.ended source.old) (source_view So.left So.taken So.ended source.new) (Si.written sink.old) (Si.written sink.new) faults0 faults result }
+    ensures part { (contents : Contents) (opening : ℕ) (faults0 faults : List ℕ) → IsCutOff result → RanInPart (Form.Script config opening) contents
+        (source_view So.left So.taken So.ended source.old) (source_view So.left So.taken So.ended source.new) (Si.written sink.old) (Si.written sink.new) faults0 faults }
     ensures ended { result ≡ 0 → IsTrue (So.ended source.new) }
+    ensures flushed { IsWhole result → Si.flushed sink.new ≡ Si.written sink.new }
     ensures read { result ≡ 66 → Rose (So.faults source.old) (So.faults source.new) }
+    ensures read_none { result ≢ 66 → So.faults source.new ≡ So.faults source.old }
     ensures write { result ≡ 74 → Rose (Si.faults sink.old) (Si.faults sink.new) }
+    ensures write_none { result ≢ 74 → Si.faults sink.new ≡ Si.faults sink.old }
 {
     match run_script(alloc, config, source, sink) {
         ScriptEnd::End { store_failed: _ } => flushed(sink, 0),
@@ -111,7 +116,9 @@ fn write_reply<Si: Sink>(sink: &mut Si, reply: &Reply) -> u8
     ensures known { (result ≡ reply.now.status) ⊎ (result ≡ 74) }
     ensures whole { result ≢ 74 → Grows (Si.written sink.old) (Si.written sink.new) reply.now.text.items }
     ensures part { GrewSome (Si.written sink.old) (Si.written sink.new) reply.now.text.items }
+    ensures flushed { result ≢ 74 → Si.flushed sink.new ≡ Si.written sink.new }
     ensures write { reply.now.status ≢ 74 → result ≡ 74 → Rose (Si.faults sink.old) (Si.faults sink.new) }
+    ensures write_none { result ≢ 74 → Si.faults sink.new ≡ Si.faults sink.old }
 {
     match write_all(sink, &reply.text) {
         Ok(()) => flushed(sink, reply.status),
@@ -128,13 +135,16 @@ fn ask_status<So: Source, Si: Sink>(
 ) -> u8
     requires size { length select.now ≤ 8192 }
     ensures known { (IsWhole result) ⊎ (IsCutOff result) }
-    ensures whole { (contents : Contents) (faults : ℕ) → IsWhole result → WroteAll (Form.Ask select.now) contents
-        (source_view So.left So.taken So.ended source.old) (source_view So.left So.taken So.ended source.new) (Si.written sink.old) (Si.written sink.new) faults result }
-    ensures part { (contents : Contents) (faults : ℕ) → IsCutOff result → WrotePart (Form.Ask select.now) contents
-        (source_view So.left So.taken So.ended source.old) (source_view So.left So.taken So.ended source.new) (Si.written sink.old) (Si.written sink.new) faults }
+    ensures whole { (contents : Contents) (faults0 faults : List ℕ) → IsWhole result → RanWhole (Form.Ask select.now) contents
+        (source_view So.left So.taken So.ended source.old) (source_view So.left So.taken So.ended source.new) (Si.written sink.old) (Si.written sink.new) faults0 faults result }
+    ensures part { (contents : Contents) (faults0 faults : List ℕ) → IsCutOff result → RanInPart (Form.Ask select.now) contents
+        (source_view So.left So.taken So.ended source.old) (source_view So.left So.taken So.ended source.new) (Si.written sink.old) (Si.written sink.new) faults0 faults }
     ensures ended { result ≡ 0 → IsTrue (So.ended source.new) }
+    ensures flushed { IsWhole result → Si.flushed sink.new ≡ Si.written sink.new }
     ensures read { result ≡ 66 → Rose (So.faults source.old) (So.faults source.new) }
+    ensures read_none { result ≢ 66 → So.faults source.new ≡ So.faults source.old }
     ensures write { result ≡ 74 → Rose (Si.faults sink.old) (Si.faults sink.new) }
+    ensures write_none { result ≢ 74 → Si.faults sink.new ≡ Si.faults sink.old }
 {
     let bytes = match read_input(alloc, source) {
         Ok(bytes) => bytes,
@@ -157,12 +167,15 @@ fn ask_tables_status<F: Files, Si: Sink>(
 ) -> u8
     requires size { length select.now ≤ 8192 }
     ensures known { (IsWhole result) ⊎ (IsCutOff result) }
-    ensures whole { (source : SourceView) (faults : ℕ) → IsWhole result →
-        WroteAll (Form.AskTables select.now schema.now) (F.contents files.old) source source (Si.written sink.old) (Si.written sink.new) faults result }
-    ensures part { (source : SourceView) (faults : ℕ) → IsCutOff result →
-        WrotePart (Form.AskTables select.now schema.now) (F.contents files.old) source source (Si.written sink.old) (Si.written sink.new) faults }
+    ensures whole { (source : SourceView) (faults0 faults : List ℕ) → IsWhole result →
+        RanWhole (Form.AskTables select.now schema.now) (F.contents files.old) source source (Si.written sink.old) (Si.written sink.new) faults0 faults result }
+    ensures part { (source : SourceView) (faults0 faults : List ℕ) → IsCutOff result →
+        RanInPart (Form.AskTables select.now schema.now) (F.contents files.old) source source (Si.written sink.old) (Si.written sink.new) faults0 faults }
+    ensures flushed { IsWhole result → Si.flushed sink.new ≡ Si.written sink.new }
     ensures read { result ≡ 66 → Rose (F.faults files.old) (F.faults files.new) }
+    ensures read_none { result ≢ 66 → F.faults files.new ≡ F.faults files.old }
     ensures write { result ≡ 74 → Rose (Si.faults sink.old) (Si.faults sink.new) }
+    ensures write_none { result ≢ 74 → Si.faults sink.new ≡ Si.faults sink.old }
 {
     match reply_from_files(alloc, select, schema, files) {
         Ok(reply) => write_reply(sink, &reply),
@@ -181,14 +194,15 @@ fn run_form<F: Files, So: Source, Si: Sink>(
 ) -> u8
     requires range { IsInRange form }
     ensures known { (IsWhole result) ⊎ (IsCutOff result) }
-    ensures whole { (faults : ℕ) → IsWhole result → WroteAll form (F.contents files.old)
-        (source_view So.left So.taken So.ended source.old) (source_view So.left So.taken So.ended source.new) (Si.written sink.old) (Si.written sink.new) faults result }
-    ensures part { (faults : ℕ) → IsCutOff result → WrotePart form (F.contents files.old)
-        (source_view So.left So.taken So.ended source.old) (source_view So.left So.taken So.ended source.new) (Si.written sink.old) (Si.written sink.new) faults }
+    ensures whole { (faults0 faults : List ℕ) → IsWhole result → RanWhole form (F.contents files.old)
+        (source_view So.left So.taken So.ended source.old) (source_view So.left So.taken So.ended source.new) (Si.written sink.old) (Si.written sink.new) faults0 faults result }
+    ensures part { (faults0 faults : List ℕ) → IsCutOff result → RanInPart form (F.contents files.old)
+        (source_view So.left So.taken So.ended source.old) (source_view So.left So.taken So.ended source.new) (Si.written sink.old) (Si.written sink.new) faults0 faults }
     ensures ended { result ≡ 0 → HasEnded form (So.ended source.new) }
     ensures untouched { LeavesUnread form (source_view So.left So.taken So.ended source.old) (source_view So.left So.taken So.ended source.new) }
-    ensures read { result ≡ 66 → (Rose (So.faults source.old) (So.faults source.new)) ⊎ (Rose (F.faults files.old) (F.faults files.new)) }
-    ensures write { result ≡ 74 → Rose (Si.faults sink.old) (Si.faults sink.new) }
+    ensures flushed { IsWhole result → Si.flushed sink.new ≡ Si.written sink.new }
+    ensures faults { TellsFaults result (record { source = So.faults source.old; files = F.faults files.old; sink = Si.faults sink.old })
+        (record { source = So.faults source.new; files = F.faults files.new; sink = Si.faults sink.new }) }
 {
     match form {
         Form::Script { config, opening: _ } => script_status(alloc, config, source, sink),
@@ -201,13 +215,14 @@ fn run_form<F: Files, So: Source, Si: Sink>(
 
 /// Runs the command that the words ask for, from the source to the sink, and answers the status of the program.
 ///
-/// The words are those after the program's name, and the stores are 48. Today there are three forms. `script T Q S m p` runs the
-/// lines of the source: DS_TOTAL_MEMORY in KB, DS_MAX_QUERIES, DS_MAX_SCANS, MAX_PDQPRIORITY and the opening priority, each a
-/// number of 1 to 7 digits without a leading zero, or 0. `ask SELECT` answers the select over the plain table of the source.
-/// `ask SELECT SCHEMA` answers it over the tables of the schema file of that name: the schema file is read and understood, then
-/// the file of each table is read in the order of the schema, up to the first that is too long, then the tables are loaded, and
-/// then the select is read. The statuses are our own, after those of sysexits.
-pub fn run<R: Threads + Sync, F: Files, So: Source, Si: Sink, Sp: Spill>(
+/// The words are those after the program's name, and the stores are 48, which come back as many. Today there are three forms.
+/// `script T Q S m p` runs the lines of the source: DS_TOTAL_MEMORY in KB, DS_MAX_QUERIES, DS_MAX_SCANS, MAX_PDQPRIORITY and the
+/// opening priority, each a number of 1 to 7 digits without a leading zero, or 0; DS_NONPDQ_QUERY_MEM is 128 KB at first.
+/// `ask SELECT` answers the select over the plain table of the source. `ask SELECT SCHEMA` answers it over the tables of the
+/// schema file of that name: the schema file is read and understood, then the file of each table is read in the order of the
+/// schema, up to the first that is too long, then the tables are loaded, and then the select is read. The statuses are our own,
+/// after those of sysexits.
+pub fn run<R: Threads + Sync, F: Files, So: Source, Si: Sink, Sp: Spill + Send>(
     _rt: &R,
     alloc: Global,
     words: &[String],
@@ -228,24 +243,33 @@ pub fn run<R: Threads + Sync, F: Files, So: Source, Si: Sink, Sp: Spill>(
 
     // With 0 and 65 what was written and the status are those of the words, of the files and of the bytes that the source gave,
     // all of them with 0. A form that does not read the source leaves it as it was.
-    ensures whole { IsWhole result → IfSome (form_of (map string_bytes words.now)) (λ form. WroteAll form (F.contents files.old)
+    ensures whole { IsWhole result → IfSome (form_of (map string_bytes words.now)) (λ form. RanWhole form (F.contents files.old)
         (source_view So.left So.taken So.ended source.old) (source_view So.left So.taken So.ended source.new) (Si.written sink.old) (Si.written sink.new)
-        (sum_by Sp.faults stores.new.items - sum_by Sp.faults stores.old.items) result) }
+        (map Sp.faults stores.old.items) (map Sp.faults stores.new.items) result) }
     ensures ended { result ≡ 0 → IfSome (form_of (map string_bytes words.now)) (λ form. HasEnded form (So.ended source.new)) }
     ensures untouched { IfSome (form_of (map string_bytes words.now)) (λ form.
         LeavesUnread form (source_view So.left So.taken So.ended source.old) (source_view So.left So.taken So.ended source.new)) }
 
     // What was written before a fault, or before memory was wanting, begins what would have been written without it.
-    ensures part { IsCutOff result → IfSome (form_of (map string_bytes words.now)) (λ form. WrotePart form (F.contents files.old)
+    ensures part { IsCutOff result → IfSome (form_of (map string_bytes words.now)) (λ form. RanInPart form (F.contents files.old)
         (source_view So.left So.taken So.ended source.old) (source_view So.left So.taken So.ended source.new) (Si.written sink.old) (Si.written sink.new)
-        (sum_by Sp.faults stores.new.items - sum_by Sp.faults stores.old.items)) }
+        (map Sp.faults stores.old.items) (map Sp.faults stores.new.items)) }
 
-    // Whatever the lines, the manager keeps its rules after each of them.
+    // Whatever the lines, the manager keeps its rules after each of them, and the printed lines keep its limits.
     ensures lawful { IfSome (form_of (map string_bytes words.now)) KeepsItsRules }
 
-    // A fault has its cause.
-    ensures read { result ≡ 66 → (Rose (So.faults source.old) (So.faults source.new)) ⊎ (Rose (F.faults files.old) (F.faults files.new)) }
-    ensures write { result ≡ 74 → Rose (Si.faults sink.old) (Si.faults sink.new) }
+    // With 0 and 65 all that was written was handed on.
+    ensures flushed { IsWhole result → Si.flushed sink.new ≡ Si.written sink.new }
+
+    // 66 exactly where the count of the source or of the files rose, and 74 exactly where that of the sink did; the first fault that
+    // comes is told, so no other count rose.
+    ensures faults { TellsFaults result (record { source = So.faults source.old; files = F.faults files.old; sink = Si.faults sink.old })
+        (record { source = So.faults source.new; files = F.faults files.new; sink = Si.faults sink.new }) }
+
+    // The stores come back, each in its place.
+    ensures stores_back { vec_len stores.new ≡ 48 }
+    ensures stores_faults { NoneFell (map Sp.faults stores.old.items) (map Sp.faults stores.new.items) }
+    ensures stores_puts { NoneFell (map Sp.puts stores.old.items) (map Sp.puts stores.new.items) }
 {
     let Ok(form) = read_words(alloc, words) else {
         return NO_MEMORY;

@@ -95,10 +95,10 @@ fn worked_examples(rt: HostRuntime) -> Result<(), Fail> {
             "SESSION 1 ADMIN STEP 1\nQUERY 1 STEP 2 PRIORITY 50 GATE 0\nADMIT 1 QUANTA 3 SCANS 1\nEND STEP 2 RESERVED 3 SCANS 1 WAITING 0\n",
         ),
         (
-            "smallest_share_and_outside",
+            "smallest_shares",
             "script 65536 16 1048576 100 0",
             "claim 25 8\n\tCLAIM  3 2 \nCLAIM 000 4\n",
-            "SESSION 1 ADMIN STEP 1\nQUERY 1 STEP 2 PRIORITY 25 GATE 0\nADMIT 1 QUANTA 4 SCANS 8\nQUERY 2 STEP 3 PRIORITY 3 GATE 0\nADMIT 2 QUANTA 1 SCANS 2\nOUTSIDE STEP 3\nEND STEP 3 RESERVED 5 SCANS 10 WAITING 0\n",
+            "SESSION 1 ADMIN STEP 1\nQUERY 1 STEP 2 PRIORITY 25 GATE 0\nADMIT 1 QUANTA 4 SCANS 8\nQUERY 2 STEP 3 PRIORITY 3 GATE 0\nADMIT 2 QUANTA 1 SCANS 2\nQUERY 3 STEP 4 PRIORITY 0 GATE 0\nADMIT 3 QUANTA 1 SCANS 1\nEND STEP 4 RESERVED 6 SCANS 11 WAITING 0\n",
         ),
         (
             "head_blocks_those_behind",

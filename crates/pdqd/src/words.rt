@@ -9,6 +9,9 @@ use pdq_model::Config;
 use pdq_value::Text;
 use std::alloc::Global;
 
+/// DS_NONPDQ_QUERY_MEM when a script begins, in KB.
+const NONPDQ_KB: u32 = 128;
+
 /// What the words ask for.
 #[derive(Drop)]
 pub(crate) enum Form {
@@ -90,7 +93,7 @@ fn script(
     if opening > 100 {
         return None;
     }
-    match Config::check(m, t, q, s) {
+    match Config::check(m, t, q, s, NONPDQ_KB) {
         Some(config) => Some(Form::Script { config, opening }),
         None => None,
     }
@@ -130,7 +133,7 @@ pub(crate) fn read_words(alloc: Global, words: &[String]) -> Result<Option<Form>
             if !is_ask(word.as_bytes()) || !is_plain_word(select.as_bytes()) {
                 return Ok(None);
             }
-            let select = Text::from_bytes(alloc, select.as_bytes())?;
+            let select = Text::from_str(alloc, select)?;
             Ok(Some(Form::Ask(select)))
         }
         [word, select, schema] => {
@@ -140,7 +143,7 @@ pub(crate) fn read_words(alloc: Global, words: &[String]) -> Result<Option<Form>
             {
                 return Ok(None);
             }
-            let select = Text::from_bytes(alloc, select.as_bytes())?;
+            let select = Text::from_str(alloc, select)?;
             let schema = FileName::copied(alloc, schema)?;
             Ok(Some(Form::AskTables { select, schema }))
         }

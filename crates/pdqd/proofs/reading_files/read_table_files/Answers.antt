@@ -8,7 +8,7 @@ pub files-preserved : goal.files-preserved
 files-preserved g c = record {
   came = came_more _ _ _ _ _ _ _ c.files.invariant.came c.file.ensures.value c.files.invariant.same c.in-Ok.ensures.added;
   same = λ other. c.in-Ok.ensures.same other ∙ c.files.invariant.same other;
-  later = omega arith;
+  passed = c.in-Ok.ensures.passed ∙ c.files.invariant.passed;
 }
 
 pub returns-in-Err-TooLong-clause-too_long : goal.returns-in-Err-TooLong-clause-too_long

@@ -4,21 +4,21 @@ use Rattle.pdqd.proofs.Statuses.{whole_kept}
 use Rattle.pdqd.proofs.run.ask_status.Goals as goal
 
 pub returns-in-Err-Failed-clause-part : goal.returns-in-Err-Failed-clause-part
-returns-in-Err-Failed-clause-part g c contents faults is = wrote_nothing _ contents faults _ _ _ c.in-Err-Failed.ensures.some
+returns-in-Err-Failed-clause-part g c contents f h is = wrote_nothing _ contents f h _ _ _ c.in-Err-Failed.ensures.some
 
 pub returns-in-Err-Memory-clause-part : goal.returns-in-Err-Memory-clause-part
-returns-in-Err-Memory-clause-part g c contents faults is = wrote_nothing _ contents faults _ _ _ c.in-Err-Memory.ensures.some
+returns-in-Err-Memory-clause-part g c contents f h is = wrote_nothing _ contents f h _ _ _ c.in-Err-Memory.ensures.some
 
 pub returns-in-Ok-reply_to-clause-known : goal.returns-in-Ok-reply_to-clause-known
 returns-in-Ok-reply_to-clause-known g c = known_status _ _ c.write_reply.ensures.known (reply_status _ _ _ _ c.in-Ok-reply_to.ensures.reply)
 
 pub returns-in-Ok-reply_to-clause-whole : goal.returns-in-Ok-reply_to-clause-whole
-returns-in-Ok-reply_to-clause-whole g c contents faults is =
+returns-in-Ok-reply_to-clause-whole g c contents f h is =
     let same : c.write_reply.result ≡ c.in-Ok-reply_to.reply.status = whole_kept _ _ c.write_reply.ensures.known is in
-    wrote_reply _ contents faults c.write_reply.result _ _ _ _ _ _ c.in-Ok.ensures.read (rw same c.in-Ok-reply_to.ensures.reply) (c.write_reply.ensures.whole (whole_is_written _ is))
+    wrote_reply _ contents f h c.write_reply.result _ _ _ _ _ _ c.in-Ok.ensures.read (rw same c.in-Ok-reply_to.ensures.reply) (c.write_reply.ensures.whole (whole_is_written _ is))
 
 pub returns-in-Ok-reply_to-clause-part : goal.returns-in-Ok-reply_to-clause-part
-returns-in-Ok-reply_to-clause-part g c contents faults is = wrote_part _ contents faults _ _ _ _ _ _ _ c.in-Ok.ensures.read c.in-Ok-reply_to.ensures.reply c.write_reply.ensures.part
+returns-in-Ok-reply_to-clause-part g c contents f h is = wrote_part _ contents f h _ _ _ _ _ _ _ c.in-Ok.ensures.read c.in-Ok-reply_to.ensures.reply c.write_reply.ensures.part
 
 pub returns-in-Ok-reply_to-clause-ended : goal.returns-in-Ok-reply_to-clause-ended
 returns-in-Ok-reply_to-clause-ended g c is =
@@ -32,4 +32,7 @@ pub returns-in-Ok-reply_to-clause-write : goal.returns-in-Ok-reply_to-clause-wri
 returns-in-Ok-reply_to-clause-write g c is = c.write_reply.ensures.write (no_write_status _ (reply_status _ _ _ _ c.in-Ok-reply_to.ensures.reply)) is
 
 pub returns-in-Err-clause-part : goal.returns-in-Err-clause-part
-returns-in-Err-clause-part g c contents faults is = wrote_nothing _ contents faults _ _ _ (record { bytes = _; came = c.in-Ok.ensures.read.came })
+returns-in-Err-clause-part g c contents f h is = wrote_nothing _ contents f h _ _ _ (record { bytes = _; came = c.in-Ok.ensures.read.came })
+
+pub returns-in-Ok-reply_to-clause-flushed : goal.returns-in-Ok-reply_to-clause-flushed
+returns-in-Ok-reply_to-clause-flushed g c is = c.write_reply.ensures.flushed (whole_is_written _ is)
