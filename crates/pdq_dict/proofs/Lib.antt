@@ -1,5 +1,5 @@
 pub mod TextOrder
-pub mod LedTexts
+pub mod PrefixedTexts
 pub mod Noting
 pub mod Rising
 pub mod Keys

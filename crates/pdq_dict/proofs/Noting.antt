@@ -7,7 +7,7 @@ use Rattle.std.proofs.lemmas.List.Sums.{fold-append, sum_by-cons}
 use Rattle.std.proofs.lemmas.List.{append-nil, take_all, take_more}
 use Rattle.std.proofs.lemmas.List.Concat.{flat_map-append}
 use Rattle.pdq_value.specs.declared.shapes.Value.{Value}
-use Rattle.pdq_value.specs.declared.shapes.Value.TheVariants.{Number, Words}
+use Rattle.pdq_value.specs.declared.shapes.Value.TheVariants.{Null, Number, Words}
 use Rattle.pdq_value.specs.Tables.{TableView}
 use Rattle.pdq_dict.specs.Texts.{is_text, noted}
 use Rattle.pdq_dict.specs.Dictionary.{cells_in, texts_of, texts_of_row, texts_of_table, texts_of_value}
@@ -58,6 +58,7 @@ length-fold_noted xs [] = omega arith
 length-fold_noted xs (u ∷ ts) = omega (arith, length-fold_noted (noted xs u) ts, length-noted xs u)
 
 length-texts_of_value : (v : Value) → length (texts_of_value v) ≤ 1
+length-texts_of_value Null = omega arith
 length-texts_of_value (Number z) = omega arith
 length-texts_of_value (Words t) = omega arith
 

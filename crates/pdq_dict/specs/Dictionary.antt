@@ -5,7 +5,7 @@ use Rattle.std.specs.List.Sorted.{IsStrictlySortedBy}
 use Rattle.std.specs.Ordering.{is_lt}
 use Rattle.pdq_base.specs.Sorting.{in_order}
 use Rattle.pdq_value.specs.declared.shapes.Value.{Value}
-use Rattle.pdq_value.specs.declared.shapes.Value.TheVariants.{Number, Words}
+use Rattle.pdq_value.specs.declared.shapes.Value.TheVariants.{Null, Number, Words}
 use Rattle.pdq_value.specs.Tables.{TableView}
 use Rattle.pdq_dict.specs.Texts.{is_text, text_cmp}
 
@@ -18,6 +18,7 @@ abbrev pub cell_limit : ℕ
 cell_limit = 32000000
 
 abbrev pub texts_of_value : Value → List (List ℕ)
+texts_of_value Null = []
 texts_of_value (Number z) = []
 texts_of_value (Words t) = t ∷ []
 

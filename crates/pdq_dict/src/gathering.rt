@@ -13,7 +13,7 @@ fn note_value(alloc: Global, value: &Value, texts: &mut TextSet) -> Result<(), M
     ensures noted { OnOk result (texts.new ≡ fold noted texts.old (texts_of_value value.now)) }
 {
     match value {
-        Value::Number(_) => Ok(()),
+        Value::Null | Value::Number(_) => Ok(()),
         Value::Words(text) => texts.note(alloc, text.bytes()),
     }
 }

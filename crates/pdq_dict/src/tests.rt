@@ -5,15 +5,18 @@ ghost use Rattle.pdq_dict.specs.Dictionary.{cells_in};
 
 use crate::Dict;
 use pdq_value::{Db, Name, Row, Table, TableShape, Text, Value};
-use std::alloc::{AllocError, Global};
+use std::alloc::Global;
 use std::test::Fail;
 
-fn words(alloc: Global, text: &[u8]) -> Result<Value, AllocError> {
-    Ok(Value::Words(Text::new(Vec::from_slice(alloc, text)?)))
+fn words(alloc: Global, text: &str) -> Result<Value, Fail> {
+    let Ok(text) = Text::from_str(alloc, text) else {
+        return Err("memory".into());
+    };
+    Ok(Value::Words(text))
 }
 
 /// A row of a number between two texts.
-fn row(alloc: Global, first: &[u8], number: i64, last: &[u8]) -> Result<Row, AllocError>
+fn row(alloc: Global, first: &str, number: i64, last: &str) -> Result<Row, Fail>
     ensures three { IfOk result (λ r. length r ≡ 3) }
 {
     let values = vec![in alloc;
@@ -25,13 +28,13 @@ fn row(alloc: Global, first: &[u8], number: i64, last: &[u8]) -> Result<Row, All
 }
 
 /// Three rows, in which the text `b` stands twice.
-fn small(alloc: Global) -> Result<Db, AllocError>
+fn small(alloc: Global) -> Result<Db, Fail>
     ensures few { IfOk result (λ db. cells_in (tables_of db) ≤ 9) }
 {
     let rows = vec![in alloc;
-        row(alloc, b"b", 7, b"")?,
-        row(alloc, b"\xc3\xa9", 8, b"a")?,
-        row(alloc, b"ab", 9, b"b")?,
+        row(alloc, "b", 7, "")?,
+        row(alloc, "é", 8, "a")?,
+        row(alloc, "ab", 9, "b")?,
     ]?;
     let shape = TableShape {
         name: Name::new(Vec::new(alloc)),

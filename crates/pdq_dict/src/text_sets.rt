@@ -6,34 +6,34 @@ ghost use Rattle.pdq_dict.specs.Texts.{is_text, noted, text_cmp};
 
 use indexmap::IndexMap;
 use pdq_base::Memory;
-use pdq_value::text_lead;
+use pdq_value::text_prefix;
 use std::alloc::Global;
 use std::cmp::Ordering;
 use std::marker::Model;
 
-/// A set of texts, seen as the list of them in the order of their places. Beside each stands its lead, by which it is compared first.
+/// A set of texts, seen as the list of them in the order of their places. Beside each stands its key prefix, by which it is compared first.
 #[derive(Debug, Drop)]
 pub struct TextSet {
-    leads: IndexMap<Vec<u8>, u128>,
+    prefixes: IndexMap<Vec<u8>, u128>,
 }
 
 impl Model for TextSet {
     ghost use Rattle.std.specs.Prelude.{All, List, ℕ, map};
     ghost use Rattle.indexmap.specs.IndexMap.{keys};
-    ghost use Rattle.pdq_dict.specs.Texts.{IsLedText};
+    ghost use Rattle.pdq_dict.specs.Texts.{IsPrefixedText};
 
     ghost Value = { List (List ℕ) };
 
-    ghost view = { λ s. map (λ t. t.items) (keys s.leads) };
+    ghost view = { λ s. map (λ t. t.items) (keys s.prefixes) };
 
-    ghost invariant = { λ s. All IsLedText s.leads.entries };
+    ghost invariant = { λ s. All IsPrefixedText s.prefixes.entries };
 }
 
-/// By leads, and by bytes where those tie.
-fn compare_led(a: &Vec<u8>, a_lead: u128, b: &Vec<u8>, b_lead: u128) -> Ordering
-    ensures order { result ≡ ordering_then (nat_cmp a_lead b_lead) (text_cmp a.now.items b.now.items) }
+/// By key prefixes, and by bytes where those tie.
+fn compare_prefixed(a: &Vec<u8>, a_prefix: u128, b: &Vec<u8>, b_prefix: u128) -> Ordering
+    ensures order { result ≡ ordering_then (nat_cmp a_prefix b_prefix) (text_cmp a.now.items b.now.items) }
 {
-    let order = a_lead.cmp(&b_lead);
+    let order = a_prefix.cmp(&b_prefix);
     if order.is_ne() {
         return order;
     }
@@ -46,7 +46,7 @@ impl TextSet {
         ensures empty { result ≡ [] }
     {
         TextSet {
-            leads: IndexMap::new(alloc),
+            prefixes: IndexMap::new(alloc),
         }
     }
 
@@ -57,13 +57,13 @@ impl TextSet {
     pub fn note(&mut self, alloc: Global, text: &[u8]) -> Result<(), Memory>
         ensures noted { OnOk result (self.new ≡ noted self.old text.now) }
     {
-        if self.leads.contains_key(text) {
+        if self.prefixes.contains_key(text) {
             return Ok(());
         }
         let Ok(copy) = Vec::from_slice(alloc, text) else {
             return Err(Memory);
         };
-        let Ok(_) = self.leads.insert(copy, text_lead(text)) else {
+        let Ok(_) = self.prefixes.insert(copy, text_prefix(text)) else {
             return Err(Memory);
         };
         Ok(())
@@ -78,8 +78,8 @@ impl TextSet {
         ensures same { IsPermutation self.old self.new }
     {
         let Ok(()) = self
-            .leads
-            .sort_unstable_by(|a, a_lead, b, b_lead| compare_led(a, *a_lead, b, *b_lead))
+            .prefixes
+            .sort_unstable_by(|a, a_prefix, b, b_prefix| compare_prefixed(a, *a_prefix, b, *b_prefix))
         else {
             return Err(Memory);
         };
@@ -90,7 +90,7 @@ impl TextSet {
     pub fn position(&self, text: &[u8]) -> Option<usize>
         ensures position { result ≡ position (is_text text.now) self.now }
     {
-        self.leads.get_index_of(text)
+        self.prefixes.get_index_of(text)
     }
 
     /// How many texts are less, where the texts are in order.
@@ -98,7 +98,7 @@ impl TextSet {
         requires rising { IsStrictlySortedBy text_cmp self.now }
         ensures count { result ≡ count_by (λ t. is_lt (text_cmp t text.now)) self.now }
     {
-        self.leads.partition_point(
+        self.prefixes.partition_point(
             |t: &Vec<u8>, _: &u128| -> bool
                 ensures { result ≡ is_lt (text_cmp t.now.items text.entry.now) }
             { t.as_slice().cmp(&text).is_lt() },
@@ -110,7 +110,7 @@ impl TextSet {
         requires there { place < length self.now }
         ensures text { slice_get self.now place ≡ Some result.now }
     {
-        match self.leads.get_index(place) {
+        match self.prefixes.get_index(place) {
             Some((text, _)) => text,
             None => &[],
         }

@@ -94,3 +94,25 @@ store_put store block = record { blocks = store.blocks ++ block ∷ []; puts = s
 -- a store after a put that failed
 abbrev pub store_failed : Store → Store
 store_failed store = record store { faults = told_count store.faults 1 }
+
+-- a store in memory, some of whose calls fail
+pub record FailingStore : Type 0 where
+  pub blocks : List (List ℕ)
+  pub puts : ℕ
+  pub calls : Calls
+
+-- an empty store
+abbrev pub fresh_store : List ℕ → FailingStore
+fresh_store fails = record { blocks = []; puts = 0; calls = record { made = 0; fails = fails; faults = 0 } }
+
+-- a store after a call that put nothing and was no fault
+abbrev pub store_called : FailingStore → FailingStore
+store_called store = record { blocks = store.blocks; puts = store.puts; calls = called store.calls }
+
+-- a store after a call that put a block
+abbrev pub store_took : FailingStore → List ℕ → FailingStore
+store_took store block = record { blocks = store.blocks ++ block ∷ []; puts = store.puts + 1; calls = called store.calls }
+
+-- a store after a call that failed
+abbrev pub store_call_failed : FailingStore → FailingStore
+store_call_failed store = record { blocks = store.blocks; puts = store.puts; calls = faulted (called store.calls) }

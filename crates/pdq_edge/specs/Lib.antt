@@ -4,3 +4,5 @@ pub mod Blocks
 pub mod InMemory
 pub mod NamedFiles
 pub mod Standard
+pub mod Digests
+pub mod Stops

@@ -6,28 +6,36 @@
 #![tactic(auto)]
 
 mod calls;
+mod failing_spill;
+mod file_spill;
 mod files;
 mod folder;
 mod memory_files;
 mod memory_sink;
 mod memory_source;
 mod memory_spill;
+mod memory_stop;
 mod sink;
 mod source;
 mod spill;
 mod standard;
+mod stop;
 mod unread;
 
+pub use failing_spill::MemSpill;
+pub use file_spill::FileSpill;
 pub use files::{FileFault, Files};
 pub use folder::Folder;
 pub use memory_files::{MemFiles, NamedFile, SureFiles};
 pub use memory_sink::{MemSink, SureSink};
 pub use memory_source::{MemSource, SureSource};
 pub use memory_spill::SureSpill;
+pub use memory_stop::{NeverStop, StopAfter};
 pub use sink::{Sink, write_all};
 pub use source::{Failed, Source};
 pub use spill::{Spill, StoreFault};
 pub use standard::{Reading, Writing};
+pub use stop::Stop;
 
 #[cfg(test)]
 mod tests;

@@ -2,12 +2,10 @@ ghost use Rattle.std.specs.Prelude.{◌≡◌, ◌<◌, ◌≤◌, ◌↔◌, []
 ghost use Rattle.pdq_edge.specs.Blocks.{most_held, most_puts, IsFull};
 ghost use Rattle.pdq_edge.specs.InMemory.{store_failed, store_put};
 
+use crate::spill::is_full;
 use crate::{Failed, Spill, StoreFault};
 use std::alloc::Global;
 use std::marker::Model;
-
-// The most blocks that a store holds.
-const MOST_HELD: usize = 4294967294;
 
 /// A store in memory that fails only where it is full: where it holds 4,294,967,294 blocks, or has counted 2^64 - 1
 /// puts.
@@ -62,7 +60,7 @@ impl Spill for SureSpill {
         ensures later { self.old.faults ≤ self.new.faults }
     {
         let (place, puts, faults) = (self.blocks.len(), self.puts, self.faults);
-        if MOST_HELD <= place || puts == u64::MAX {
+        if is_full(place, puts) {
             self.faults = faults.saturating_add(1);
             return Err(StoreFault::Failed);
         }

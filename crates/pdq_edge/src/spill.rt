@@ -1,8 +1,18 @@
-ghost use Rattle.std.specs.Prelude.{◌≡◌, ◌+◌, ◌<◌, ◌≤◌, ℕ, List, Option, Some, length, slice_get, IfOk, OnOk, OnErr, IfSome, IsErrOf};
+ghost use Rattle.std.specs.Prelude.{◌≡◌, ◌+◌, ◌<◌, ◌≤◌, ◌↔◌, ℕ, List, Option, Some, length, slice_get, IfOk, OnOk, OnErr, IfSome, IsErrOf, IsTrue};
 ghost use Rattle.pdq_edge.specs.Blocks.{most_held, most_puts, appended, emptied, IsFull};
 ghost use Rattle.pdq_edge.specs.Causes.{HasCause, Rose};
 
 use crate::Failed;
+
+// The most blocks that a store holds at once.
+const MOST_HELD: usize = 4294967294;
+
+/// Whether a store with so many blocks and puts takes no more.
+pub(crate) fn is_full(held: usize, puts: u64) -> bool
+    ensures full { IsTrue result ↔ IsFull held puts }
+{
+    MOST_HELD <= held || puts == u64::MAX
+}
 
 /// Why a block was not put.
 #[derive(Clone, Copy, Debug, PartialEq, Eq)]

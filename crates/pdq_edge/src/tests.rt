@@ -1,8 +1,9 @@
 ghost use Rattle.std.specs.Prelude.{◌≤◌, IfOk};
 
+use crate::file_spill::{read_at, write_at};
 use crate::*;
 use std::alloc::Global;
-use std::io::{self, ErrorKind, Read, Write};
+use std::io::{self, ErrorKind, Read, Seek, SeekFrom, Write};
 use std::process::{self, Abort};
 use std::test::Fail;
 use std::{env, fs};
@@ -174,6 +175,105 @@ fn store_in_memory(rt: HostRuntime) -> Result<(), Fail> {
     Ok(())
 }
 
+#[test]
+fn store_that_fails(rt: HostRuntime) -> Result<(), Fail> {
+    let fails = [1, 3].to_vec(rt.alloc())?;
+    let mut store = MemSpill::new(rt.alloc(), fails);
+    let mut into = [0; 4096];
+    assert_eq!(rt; store.put(&[7; 4096]), Ok(0));
+    assert_eq!(rt; store.put(&[8; 4096]), Err(StoreFault::Failed));
+    assert_eq!(rt; store.put(&[9; 4096]), Ok(1), "the same place");
+    assert_eq!(rt; store.get(0, &mut into), Err(Failed));
+    assert_eq!(rt; store.get(1, &mut into), Ok(()));
+    assert_eq!(rt; into[0], 9);
+    store.clear();
+    assert_eq!(rt; store.put(&[6; 4096]), Ok(0));
+    Ok(())
+}
+
+fn sent<T: Send>(store: T) -> T {
+    store
+}
+
+#[test]
+fn store_in_a_file(rt: HostRuntime) -> Result<(), Fail> {
+    let name = format!(in rt.alloc(); "pdq_edge_store_{}", process::id(rt.process()))?;
+    let folder = env::temp_dir(&rt)?.join(rt.alloc(), name)?;
+    let _ = fs::remove_dir_all(&rt, &folder);
+    fs::create_dir(&rt, &folder)?;
+    let path = folder.join(rt.alloc(), "pdq-7.overflow")?;
+    let mut counter = 7;
+    let made = FileSpill::new(rt.alloc(), rt, folder.as_path(), &mut counter);
+    let mut store = sent(made.map_err(|_| "memory")?);
+    let made = FileSpill::new(rt.alloc(), rt, folder.as_path(), &mut counter);
+    let unused = made.map_err(|_| "memory")?;
+    assert_eq!(rt; counter, 9);
+    assert!(rt; fs::metadata(&rt, &path).is_err(), "no file before a put");
+
+    let mut into = [0; 4096];
+    assert_eq!(rt; store.put(&[1; 4096]), Ok(0));
+    assert_eq!(rt; store.put(&[2; 4096]), Ok(1));
+    assert_eq!(rt; store.get(1, &mut into), Ok(()));
+    assert_eq!(rt; into[4095], 2);
+    store.clear();
+    assert_eq!(rt;
+        fs::metadata(&rt, &path)?.len(),
+        0,
+        "the space is given back"
+    );
+    assert_eq!(rt; store.put(&[3; 4096]), Ok(0));
+    assert_eq!(rt; store.put(&[4; 4096]), Ok(1));
+    let mut bytes = fs::read(&rt, &path)?;
+    assert_eq!(rt; bytes.len(), 8192);
+    bytes[5000] = 5;
+    fs::write(&rt, &path, bytes.as_slice())?;
+    assert_eq!(rt; store.get(0, &mut into), Ok(()));
+    assert_eq!(rt; into[4095], 3);
+    assert_eq!(rt;
+        store.get(1, &mut into),
+        Err(Failed),
+        "a changed byte is found"
+    );
+    drop(unused);
+    drop(store);
+    let left = fs::read_dir(&rt, &folder)?.count();
+    assert_eq!(rt; left, 0, "no file is left behind");
+
+    fs::remove_dir_all(&rt, &folder)?;
+    let made = FileSpill::new(rt.alloc(), rt, folder.as_path(), &mut counter);
+    let mut store = made.map_err(|_| "memory")?;
+    assert_eq!(rt;
+        store.put(&[1; 4096]),
+        Err(StoreFault::Failed),
+        "no such folder"
+    );
+    fs::create_dir(&rt, &folder)?;
+    assert_eq!(rt; store.put(&[2; 4096]), Ok(0), "the same place");
+    drop(store);
+    fs::remove_dir_all(&rt, &folder)?;
+    Ok(())
+}
+
+#[test]
+fn full_disk(rt: HostRuntime) {
+    let mut disk = Rough::new(0, 1000, 5000);
+    assert_eq!(rt; write_at(&mut disk, 0, &[1; 4096]), Ok(()));
+    assert_eq!(rt; write_at(&mut disk, 1, &[2; 4096]), Err(Failed));
+    let mut into = [0; 4096];
+    let mut short = Rough::new(0, 1000, 4095);
+    assert_eq!(rt; read_at(&mut short, 0, &mut into), Err(Failed));
+}
+
+#[test]
+fn flags(rt: HostRuntime) {
+    let mut never = NeverStop::new();
+    assert_eq!(rt; never.stopped(), None);
+    let mut after = StopAfter::new(2, 9);
+    for want in [None, None, Some(9), Some(9)] {
+        assert_eq!(rt; after.stopped(), want);
+    }
+}
+
 /// A reader and writer that is interrupted so often before each call, and takes at most so many bytes at once.
 #[derive(Drop)]
 struct Rough {
@@ -222,6 +322,12 @@ impl Write for Rough {
     fn flush(&mut self) -> io::Result<()> {
         self.step(0)?;
         Ok(())
+    }
+}
+
+impl Seek for Rough {
+    fn seek(&mut self, _to: SeekFrom) -> io::Result<u64> {
+        Ok(0)
     }
 }
 

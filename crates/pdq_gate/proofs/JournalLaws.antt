@@ -12,7 +12,7 @@ use Rattle.pdq_model.specs.declared.events.Reply.{Reply}
 use Rattle.pdq_model.specs.declared.events.Why.{Why}
 use Rattle.pdq_model.specs.declared.events.Why.TheVariants as why
 use Rattle.pdq_model.specs.declared.events.Answer.{Answer}
-use Rattle.pdq_model.specs.declared.events.Answer.TheVariants.{Entered, Outside, Waits, Refuses}
+use Rattle.pdq_model.specs.declared.events.Answer.TheVariants.{Entered, Waits, Refuses}
 use Rattle.pdq_model.specs.Configuration.{Configuration, is_valid}
 use Rattle.pdq_model.specs.State.{State, opening_state}
 use Rattle.pdq_model.specs.Soundness.{IsSound}
@@ -34,7 +34,6 @@ history_goes_on c s t history who event answer kept may says step = subst (λ (x
           replayed = sym (ap (λ a. after_answer s who event a) (decides refl)) ∙ ap (λ (x : State). next x who event) kept.replayed ∙ sym (state_then (opening_state c) history e);
           counted = omega (arith, length_push history e, kept.counted, entries_after s who event (Entered r) refl);
         }
-    go Outside occurs decides = kept
     go (Waits gate) occurs decides = kept
     go (Refuses reason) occurs decides = kept
 

@@ -1,4 +1,5 @@
 pub mod Lookups
+pub mod Workable
 pub mod Settling
 pub mod Quiet
 pub mod Standing

@@ -8,7 +8,7 @@ use Rattle.pdq_model.specs.declared.rows.Waiting.{Waiting}
 use Rattle.pdq_model.specs.declared.rows.Active.{Active}
 use Rattle.pdq_model.specs.declared.rows.Pending.{Pending}
 use Rattle.pdq_model.specs.declared.events.Answer.{Answer}
-use Rattle.pdq_model.specs.declared.events.Answer.TheVariants.{Entered, Outside, Waits, Refuses}
+use Rattle.pdq_model.specs.declared.events.Answer.TheVariants.{Entered, Waits, Refuses}
 use Rattle.pdq_model.specs.declared.events.Event.TheVariants.{Submit}
 use Rattle.pdq_model.specs.State.{State}
 use Rattle.pdq_model.specs.Step.{after_answer, changed, decide, next}
@@ -116,6 +116,5 @@ configuration_submitted s who p f settled = go (decide s who (Submit p f))
   where
     go : (answer : Answer) → KeepsConfiguration s (after_answer s who (Submit p f) answer)
     go (Entered r) = let kept = configuration_settled (record (changed s who (Submit p f)) { entries = s.entries + 1 }) settled.changed in record { config = kept.config; pending = kept.pending }
-    go Outside = record { config = refl; pending = refl }
     go (Waits gate) = record { config = refl; pending = refl }
     go (Refuses reason) = record { config = refl; pending = refl }

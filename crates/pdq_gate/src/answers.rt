@@ -30,10 +30,6 @@ pub enum Submitted {
         priority: u32,
         gate: u32,
     },
-    /// Its effective priority is 0: it runs outside the manager, and no entry was made.
-    Outside {
-        step: u64,
-    },
 }
 
 /// A query was collected, or still waits.

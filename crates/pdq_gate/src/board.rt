@@ -157,6 +157,7 @@ impl Board {
             change.total_kb,
             change.max_queries,
             change.max_scans,
+            self.config.nonpdq_kb(),
         ) else {
             unreachable!();
         };
@@ -293,9 +294,7 @@ impl Board {
         ensures active { KeepsActive (state_of self.old) (state_of self.new) }
     {
         let effective = self.config.effective_priority(priority);
-        if effective == 0 {
-            Answer::Outside
-        } else if self.waiting.len() >= MOST_WAITING {
+        if self.waiting.len() >= MOST_WAITING {
             Answer::Refuses(Why::QueueFull)
         } else if self.is_full_for(4) {
             Answer::Refuses(Why::JournalFull)

@@ -19,6 +19,8 @@ pub enum Change {
     MaxQueries(u32, Pool),
     /// DS_MAX_SCANS.
     MaxScans(u32),
+    /// DS_NONPDQ_QUERY_MEM, in KB; for later admissions alone.
+    NonPdq(u32),
 }
 
 /// The change without its pool.
@@ -30,6 +32,7 @@ pub(crate) fn setting_of(change: &Change) -> Setting
         Change::TotalMemory(total_kb, _) => Setting::TotalMemory(*total_kb),
         Change::MaxQueries(max_queries, _) => Setting::MaxQueries(*max_queries),
         Change::MaxScans(max_scans) => Setting::MaxScans(*max_scans),
+        Change::NonPdq(nonpdq_kb) => Setting::NonPdq(*nonpdq_kb),
     }
 }
 
@@ -42,6 +45,7 @@ pub(crate) fn can_wait(setting: Setting) -> bool
         Setting::TotalMemory(_) => true,
         Setting::MaxQueries(_) => true,
         Setting::MaxScans(_) => true,
+        Setting::NonPdq(_) => false,
     }
 }
 
@@ -64,5 +68,6 @@ pub(crate) fn has_asked_pool(change: &Change, target: &Config) -> bool
         Change::TotalMemory(_, pool) => is_pool_for(pool, target),
         Change::MaxQueries(_, pool) => is_pool_for(pool, target),
         Change::MaxScans(_) => true,
+        Change::NonPdq(_) => true,
     }
 }

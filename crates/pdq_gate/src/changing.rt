@@ -2,12 +2,12 @@
 ghost use Rattle.std.specs.Prelude.{false, ◌≡◌, ◌+◌, ◌≤◌, ◌&&◌, Some, IfSome, is_some};
 ghost use Rattle.pdq_model.specs.Configuration.{configuration, is_valid, IsValid};
 ghost use Rattle.pdq_model.specs.Laws.{counted};
-ghost use Rattle.pdq_model.specs.Settling.{admits, IsSettled};
+ghost use Rattle.pdq_model.specs.Settling.{admits, with_pending, IsSettled};
 ghost use Rattle.pdq_model.specs.Step.{answer_to_change, can_wait, changed_reply, entered, is_full_for, next_with_pool, pending_or_present, target_of};
 ghost use Rattle.pdq_gate.specs.Answers.{change_answer};
 ghost use Rattle.pdq_gate.specs.Board.{state_of};
 ghost use Rattle.pdq_gate.specs.Invariant.{IsKeptFor, IsSoundBoard, IsWholePool};
-ghost use Rattle.pdq_gate.specs.Changes.{admitted_by_change, asked_of, pool_size, setting_of, with_limit, with_change, HasPoolFor};
+ghost use Rattle.pdq_gate.specs.Changes.{admitted_by_change, asked_of, pool_size, setting_of, with_limit, with_memory, with_change, HasPoolFor};
 
 use crate::board::Board;
 use crate::changes::{Change, can_wait, has_asked_pool, setting_of};
@@ -26,12 +26,12 @@ fn asked_of(target: &Config) -> Pending
 }
 
 /// The configuration of these numbers, where it is valid.
-fn checked(m: u32, t: u32, q: u32, s: u32) -> Option<Config>
-    ensures test { is_some result ≡ is_valid (configuration m t q s) }
+fn checked(m: u32, t: u32, q: u32, s: u32, n: u32) -> Option<Config>
+    ensures test { is_some result ≡ is_valid (configuration m t q s n) }
     ensures valid { IfSome result IsValid }
-    ensures value { IfSome result (λ c. c ≡ configuration m t q s) }
+    ensures value { IfSome result (λ c. c ≡ configuration m t q s n) }
 {
-    Config::check(m, t, q, s)
+    Config::check(m, t, q, s, n)
 }
 
 impl Board {
@@ -54,19 +54,19 @@ impl Board {
         ensures value { IfSome result (λ c. c ≡ target_of (state_of self.now) setting) }
     {
         let from = self.pending_or_present();
+        let (m, t, q, s, n) = (
+            from.max_priority(),
+            from.total_kb(),
+            from.max_queries(),
+            from.max_scans(),
+            from.nonpdq_kb(),
+        );
         match setting {
-            Setting::MaxPriority(m) => {
-                checked(m, from.total_kb(), from.max_queries(), from.max_scans())
-            }
-            Setting::TotalMemory(t) => {
-                checked(from.max_priority(), t, from.max_queries(), from.max_scans())
-            }
-            Setting::MaxQueries(q) => {
-                checked(from.max_priority(), from.total_kb(), q, from.max_scans())
-            }
-            Setting::MaxScans(s) => {
-                checked(from.max_priority(), from.total_kb(), from.max_queries(), s)
-            }
+            Setting::MaxPriority(m) => checked(m, t, q, s, n),
+            Setting::TotalMemory(t) => checked(m, t, q, s, n),
+            Setting::MaxQueries(q) => checked(m, t, q, s, n),
+            Setting::MaxScans(s) => checked(m, t, q, s, n),
+            Setting::NonPdq(n) => checked(m, t, q, s, n),
         }
     }
 
@@ -83,6 +83,30 @@ impl Board {
             self.config.total_kb(),
             self.config.max_queries(),
             self.config.max_scans(),
+            self.config.nonpdq_kb(),
+        ) else {
+            unreachable!();
+        };
+        self.config = config;
+        self.changes += 1;
+        self.entries += 1;
+    }
+
+    /// DS_NONPDQ_QUERY_MEM changes, and that is entered.
+    fn resize(&mut self, nonpdq_kb: u32)
+        requires sound { IsSoundBoard self.old }
+        requires least { 128 ≤ nonpdq_kb }
+        requires most { nonpdq_kb ≤ 262144 }
+        requires room { is_full_for (state_of self.old) 1 ≡ false }
+        ensures sound { IsSoundBoard self.new }
+        ensures state { state_of self.new ≡ with_memory (state_of self.old) nonpdq_kb }
+    {
+        let Some(config) = Config::check(
+            self.config.max_priority(),
+            self.config.total_kb(),
+            self.config.max_queries(),
+            self.config.max_scans(),
+            nonpdq_kb,
         ) else {
             unreachable!();
         };
@@ -94,7 +118,7 @@ impl Board {
     /// A change is pending now, and that is entered.
     fn ask(&mut self, target: Config)
         requires sound { IsSoundBoard self.old }
-        requires valid { IsValid (record target { max_priority = self.old.config.max_priority }) }
+        requires valid { IsValid (with_pending self.old.config (asked_of target)) }
         requires kept { IsKeptFor self.old.config (Some (asked_of target)) self.old.next_pool }
         requires room { is_full_for (state_of self.old) 1 ≡ false }
         ensures sound { IsSoundBoard self.new }
@@ -108,7 +132,7 @@ impl Board {
     /// A change is pending now, with its pool in place of one that was kept before, and that is entered.
     fn ask_with_pool(&mut self, target: Config, pool: Pool)
         requires sound { IsSoundBoard self.old }
-        requires valid { IsValid (record target { max_priority = self.old.config.max_priority }) }
+        requires valid { IsValid (with_pending self.old.config (asked_of target)) }
         requires whole { IsWholePool target pool }
         requires room { is_full_for (state_of self.old) 1 ≡ false }
         ensures sound { IsSoundBoard self.new }
@@ -135,6 +159,7 @@ impl Board {
             Change::TotalMemory(_, pool) => self.ask_with_pool(target, pool),
             Change::MaxQueries(_, pool) => self.ask_with_pool(target, pool),
             Change::MaxScans(_) => self.ask(target),
+            Change::NonPdq(nonpdq_kb) => self.resize(nonpdq_kb),
         }
     }
 

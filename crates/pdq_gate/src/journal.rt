@@ -21,7 +21,6 @@ pub(crate) fn enter(journal: &mut Vec<Entry>, session: u32, event: Event, answer
             event,
             reply,
         }),
-        Answer::Outside => {}
         Answer::Waits(_) => {}
         Answer::Refuses(_) => {}
     }

@@ -5,15 +5,17 @@ ghost use Rattle.pdq_model.specs.State.{next_session};
 ghost use Rattle.pdq_model.specs.Gates.{reserved_quanta, scans_in_use};
 ghost use Rattle.pdq_model.specs.Settling.{take_pending, IsSettled, Admissions};
 ghost use Rattle.pdq_model.specs.Soundness.{IsSound};
-ghost use Rattle.pdq_model.specs.Step.{answer_to_change, decide, next, next_with_pool, admitted_after, is_open, owner_of, active_owner, is_waiting};
+ghost use Rattle.pdq_model.specs.Step.{answer_to_change, decide, next, next_with_pool, admitted_after, is_admin, is_open, owner_of, active_owner, is_waiting};
 ghost use Rattle.pdq_model.specs.History.{MayClose, MaySubmit, may_collect, replay, IsLegal};
+ghost use Rattle.pdq_model.specs.Laws.{IsAtRest};
 ghost use Rattle.pdq_model.specs.StatusView.{status_of};
-ghost use Rattle.pdq_gate.specs.ManagerView.{opening_view, whole_pool};
+ghost use Rattle.pdq_gate.specs.ManagerView.{opening_view};
+ghost use Rattle.pdq_gate.specs.Invariant.{IsWholePool};
 ghost use Rattle.pdq_gate.specs.Conservation.{Conserves, quanta_lent};
 ghost use Rattle.pdq_gate.specs.Queries.{active_query, flag_of, session_of, holder_of, with_session, unsettled, MayFinish, KeepsConfiguration, KeepsRest, KeepsActive, KeepsOthers};
-ghost use Rattle.pdq_gate.specs.Answers.{IsOpened, IsSubmitted, IsCancelled, IsChanged, IsCollected, IsHandedOver};
+ghost use Rattle.pdq_gate.specs.Answers.{IsOpened, IsSubmitted, IsCancelled, IsChanged, IsCollected, IsHandedOver, IsWorkable};
 ghost use Rattle.pdq_gate.specs.Changes.{admitted_by_change, pool_size, setting_of};
-ghost use Rattle.pdq_gate.specs.Journal.{history_after};
+ghost use Rattle.pdq_gate.specs.Journal.{history_with, history_with_change};
 
 use crate::answers::{
     Cancelled, Changed, Collected, Opened, Refused, Submitted, cancel_answer, change_answer,
@@ -88,7 +90,7 @@ impl Manager {
     /// # Errors
     /// For want of memory alone, with the pool as it came.
     pub fn new(alloc: Global, config: Config, pool: Pool) -> Result<Manager, Pool>
-        requires pool { pool ≡ whole_pool config }
+        requires pool { IsWholePool config pool }
         ensures begins { IfOk result (λ m. m ≡ opening_view config) }
         ensures returned { IfErr result (λ p. p ≡ pool) }
         ensures conserved { IfOk result Conserves }
@@ -177,6 +179,13 @@ impl Manager {
         self.board.is_open(session)
     }
 
+    /// Whether the session of this number is open, and an administrator's.
+    pub fn is_admin(&self, session: u32) -> bool
+        ensures value { result ≡ is_admin self.now.state session }
+    {
+        self.board.is_admin(session)
+    }
+
     /// Whether a session may be closed: it is open and has no query that waits, is active or was withdrawn.
     pub fn may_close(&self, session: u32) -> bool
         ensures value { IsTrue result ↔ MayClose self.now.state session }
@@ -209,8 +218,7 @@ impl Manager {
             next self.old.state (next_session self.old.state) (Event.OpenSession admin) }
         ensures admitted { self.new.admitted ≡
             admitted_after self.old.state (next_session self.old.state) (Event.OpenSession admin) self.old.admitted }
-        ensures history { self.new.history ≡
-            history_after self.old.history (next_session self.old.state) (Event.OpenSession admin) (decide self.old.state (next_session self.old.state) (Event.OpenSession admin)) }
+        ensures history { self.new.history ≡ history_with self.old (next_session self.old.state) (Event.OpenSession admin) }
 
         ensures opening { self.new.opening ≡ self.old.opening }
         ensures opened { OnOk result (self.new.state ≡ with_session self.old.state admin) }
@@ -247,8 +255,7 @@ impl Manager {
         ensures state { self.new.state ≡ next self.old.state session Event.CloseSession }
         ensures admitted { self.new.admitted ≡
             admitted_after self.old.state session Event.CloseSession self.old.admitted }
-        ensures history { self.new.history ≡
-            history_after self.old.history session Event.CloseSession (decide self.old.state session Event.CloseSession) }
+        ensures history { self.new.history ≡ history_with self.old session Event.CloseSession }
 
         ensures opening { self.new.opening ≡ self.old.opening }
 
@@ -276,8 +283,7 @@ impl Manager {
         ensures state { self.new.state ≡ next self.old.state session (Event.Submit priority frags) }
         ensures admitted { self.new.admitted ≡
             admitted_after self.old.state session (Event.Submit priority frags) self.old.admitted }
-        ensures history { self.new.history ≡
-            history_after self.old.history session (Event.Submit priority frags) (decide self.old.state session (Event.Submit priority frags)) }
+        ensures history { self.new.history ≡ history_with self.old session (Event.Submit priority frags) }
 
         // Beyond what the event itself changes a pending change is taken where no query is active, and then there are admissions alone, each
         // of the head, which no gate refuses.
@@ -307,7 +313,6 @@ impl Manager {
                 priority,
                 gate,
             }),
-            Answer::Outside => Ok(Submitted::Outside { step }),
             Answer::Refuses(why) => Err(Refused { why, step }),
             _ => unreachable!(),
         }
@@ -323,11 +328,11 @@ impl Manager {
             next self.old.state (session_of self.old.state id) (Event.Collect id) }
         ensures admitted { self.new.admitted ≡
             admitted_after self.old.state (session_of self.old.state id) (Event.Collect id) self.old.admitted }
-        ensures history { self.new.history ≡
-            history_after self.old.history (session_of self.old.state id) (Event.Collect id) (decide self.old.state (session_of self.old.state id) (Event.Collect id)) }
+        ensures history { self.new.history ≡ history_with self.old (session_of self.old.state id) (Event.Collect id) }
 
         ensures opening { self.new.opening ≡ self.old.opening }
         ensures granted { IsHandedOver self.old.state self.new.state id result }
+        ensures shares { IsWorkable result }
 
         ensures conserved { Conserves self.new }
         ensures settled { IsSettled self.new.state }
@@ -351,8 +356,7 @@ impl Manager {
             next self.old.state (holder_of self.old.state id) (Event.Finish id how) }
         ensures admitted { self.new.admitted ≡
             admitted_after self.old.state (holder_of self.old.state id) (Event.Finish id how) self.old.admitted }
-        ensures history { self.new.history ≡
-            history_after self.old.history (holder_of self.old.state id) (Event.Finish id how) (decide self.old.state (holder_of self.old.state id) (Event.Finish id how)) }
+        ensures history { self.new.history ≡ history_with self.old (holder_of self.old.state id) (Event.Finish id how) }
 
         // Beyond what the event itself changes a pending change is taken where no query is active, and then there are admissions alone, each
         // of the head, which no gate refuses.
@@ -394,8 +398,7 @@ impl Manager {
         ensures state { self.new.state ≡ next self.old.state by (Event.Cancel id) }
         ensures admitted { self.new.admitted ≡
             admitted_after self.old.state by (Event.Cancel id) self.old.admitted }
-        ensures history { self.new.history ≡
-            history_after self.old.history by (Event.Cancel id) (decide self.old.state by (Event.Cancel id)) }
+        ensures history { self.new.history ≡ history_with self.old by (Event.Cancel id) }
 
         ensures opening { self.new.opening ≡ self.old.opening }
         ensures refused { OnErr result (self.new.state ≡ self.old.state) }
@@ -416,8 +419,8 @@ impl Manager {
         }
     }
 
-    /// Changes a parameter, for the session `by`. MAX_PDQPRIORITY changes at once; the other three are pending until no query is active, which
-    /// may be at once. A pool that comes with a change that is refused is dropped, and so is one that another takes the place of.
+    /// Changes a parameter, for the session `by`. MAX_PDQPRIORITY and DS_NONPDQ_QUERY_MEM change at once, and the second may admit a head that now
+    /// fits; the other three are pending until no query is active, which may be at once. A pool that comes with a change that is refused is dropped, and so is one that another takes the place of.
     ///
     /// # Errors
     /// `NotAllowed` where `by` is a user's session; then `BadValue` where the pending configuration so changed, or the present one where none
@@ -432,8 +435,7 @@ impl Manager {
             next_with_pool self.old.state by (setting_of change) (pool_size change) }
         ensures admitted { self.new.admitted ≡
             admitted_by_change self.old.state by (setting_of change) (pool_size change) self.old.admitted }
-        ensures history { self.new.history ≡ history_after self.old.history by (Event.Onmode (setting_of change))
-            (answer_to_change self.old.state by (setting_of change) (pool_size change)) }
+        ensures history { self.new.history ≡ history_with_change self.old by (setting_of change) (pool_size change) }
 
         ensures opening { self.new.opening ≡ self.old.opening }
         ensures refused { OnErr result (self.new.state ≡ self.old.state) }
@@ -468,6 +470,20 @@ impl Manager {
         ensures value { result.now ≡ self.now.history }
     {
         &self.journal
+    }
+
+    /// What is true of every manager, for a caller that knows nothing else of it, as one who took it from a lock. Answers the step.
+    pub fn certify(&self) -> u64
+        ensures step { result ≡ self.now.state.entries }
+        ensures counted { self.now.state.entries ≡ length self.now.history }
+        ensures conserved { Conserves self.now }
+        ensures settled { IsSettled self.now.state }
+        ensures rests { IsAtRest self.now.state }
+        ensures sound { IsSound self.now.state }
+        ensures legal { IsLegal self.now.opening self.now.history }
+        ensures replayed { self.now.state ≡ replay self.now.opening self.now.history }
+    {
+        self.board.entries
     }
 
     /// Fills the status.

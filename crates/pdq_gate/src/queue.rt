@@ -6,7 +6,6 @@ ghost use Rattle.std.specs.List.{list_any, prefix_len, HoldsAt};
 ghost use Rattle.std.specs.List.Sorted.{IsPartitionedBy};
 ghost use Rattle.pdq_model.specs.Order.{head_of, head_place, waiting_order};
 ghost use Rattle.pdq_model.specs.Settling.{overtake};
-ghost use Rattle.pdq_model.specs.Step.{without};
 ghost use Rattle.pdq_gate.specs.Showing.{row_shown};
 ghost use Rattle.pdq_gate.specs.Ranks.{rank_of, is_ahead, AreRising, overtaken_once, rows_in_order};
 
@@ -280,17 +279,6 @@ impl Queue {
         let w = take_row(&mut self.rows, place);
         take_rank(&mut self.order, rank_of(&w));
         w
-    }
-
-    /// Takes out the query of this number, where it waits.
-    pub fn remove(&mut self, id: u32) -> Option<Waiting>
-        ensures row { result ≡ option_and_then (slice_get self.old) (position (λ w. w.id == id) self.old) }
-        ensures value { self.new ≡ without self.old (position (λ w. w.id == id) self.old) }
-    {
-        match self.place(id) {
-            Some(place) => Some(self.remove_at(place)),
-            None => None,
-        }
     }
 
     /// The query at this place is overtaken once more; at the 32nd time its rank moves forward.

@@ -13,7 +13,7 @@ use std::process::Abort;
 /// A call, with what it must answer.
 #[derive(Drop)]
 enum Line {
-    /// Session 1 submits a query of this priority and so many fragments: its number and its gate, number 0 for a query outside.
+    /// Session 1 submits a query of this priority and so many fragments: its number and its gate.
     Claim(u32, u32, u32, u32),
     /// Session 1 submits a query of this priority and so many fragments, and is refused.
     Refused(u32, u32, Refused),
@@ -50,7 +50,10 @@ fn pool(alloc: Global, quanta: u32, frames: u32) -> Option<Pool>
 fn opened(rt: &impl Abort, alloc: Global, total_kb: u32, queries: u32, scans: u32) -> Manager
     ensures known { IsTrue (is_open result.state 1) }
 {
-    let config = Config::check(100, total_kb, queries, scans).expect(rt, "a valid configuration");
+    let config = Config::check(100, total_kb, queries, scans, 128).expect(
+        rt,
+        "a valid configuration",
+    );
     let pool = pool(alloc, config.max_queries(), config.frames_per_quantum());
     let Some(pool) = pool else {
         panic!(rt; "ample memory");
@@ -91,7 +94,6 @@ fn claims(manager: &mut Manager, priority: u32, frags: u32, number: u32, at: u32
                 },
             ),
         ) => id == number && gate == at,
-        Some(Ok(Submitted::Outside { step: _ })) => number == 0,
         Some(Err(_)) => false,
         None => false,
     }
@@ -123,6 +125,7 @@ fn change(alloc: Global, setting: Setting, quanta: u32, frames: u32) -> Option<C
         Setting::TotalMemory(v) => Some(Change::TotalMemory(v, pool(alloc, quanta, frames)?)),
         Setting::MaxQueries(v) => Some(Change::MaxQueries(v, pool(alloc, quanta, frames)?)),
         Setting::MaxScans(v) => Some(Change::MaxScans(v)),
+        Setting::NonPdq(v) => Some(Change::NonPdq(v)),
     }
 }
 
@@ -221,8 +224,8 @@ fn head_blocks_those_behind(rt: HostRuntime) {
         Line::Claim(60, 1, 1, 0),
         Line::Claim(50, 1, 2, 1),
         Line::Claim(10, 1, 3, 3),
+        Line::Claim(0, 1, 4, 3),
         Line::Admits(&[]),
-        Line::Claim(0, 1, 0, 0),
     ];
     play(&rt, rt.alloc(), 10, &lines, 10);
 }
@@ -285,6 +288,66 @@ fn priority_limit_acts_on_later_queries(rt: HostRuntime) {
             quanta: 5,
             scans: 1,
         }]),
+    ];
+    play(&rt, rt.alloc(), 10, &lines, 10);
+}
+
+// 1,000 KB are three quanta of 400 KB; a quarter of ten quanta is two.
+#[test]
+fn nonpdq_memory_changes_at_once(rt: HostRuntime) {
+    let changed = |step| Changed {
+        pending: false,
+        step,
+    };
+    let bad = Refused {
+        why: Why::BadValue,
+        step: 4,
+    };
+    let lines = [
+        Line::Claim(0, 4, 1, 0),
+        Line::Onmode(1, Setting::NonPdq(1000), 0, 0, Ok(changed(3))),
+        Line::Claim(0, 4, 2, 0),
+        Line::Admits(&[Admit {
+            id: 2,
+            quanta: 2,
+            scans: 1,
+        }]),
+        Line::Onmode(1, Setting::NonPdq(127), 0, 0, Err(bad)),
+    ];
+    play(&rt, rt.alloc(), 10, &lines, 10);
+    let lines = [
+        Line::Onmode(1, Setting::NonPdq(1000), 0, 0, Ok(changed(2))),
+        Line::Claim(90, 1, 1, 0),
+        Line::Claim(0, 1, 2, 1),
+        Line::Onmode(1, Setting::NonPdq(128), 0, 0, Ok(changed(5))),
+        Line::Admits(&[Admit {
+            id: 2,
+            quanta: 1,
+            scans: 1,
+        }]),
+    ];
+    play(&rt, rt.alloc(), 10, &lines, 10);
+}
+
+#[test]
+fn priority_zero_goes_last(rt: HostRuntime) {
+    let lines = [
+        Line::Claim(100, 1, 1, 0),
+        Line::Claim(0, 1, 2, 1),
+        Line::Claim(1, 1, 3, 1),
+        Line::Done(1, 6),
+        Line::Admits(&[
+            Admit {
+                id: 3,
+                quanta: 1,
+                scans: 1,
+            },
+            Admit {
+                id: 2,
+                quanta: 1,
+                scans: 1,
+            },
+        ]),
     ];
     play(&rt, rt.alloc(), 10, &lines, 10);
 }

@@ -12,7 +12,7 @@ use Rattle.pdq_value.proofs.Orders.{cell_cmp-IsLinearOrder}
 use Rattle.pdq_query.specs.Folds.{greatest_of, least_of}
 use Rattle.std.proofs.lemmas.List.Sorted.{sorted_far}
 
-abbrev comes_before : Cell → Cell → Bool
+abbrev pub comes_before : Cell → Cell → Bool
 comes_before a b = is_lt (cell_cmp a b)
 
 first_put : (c : Cell) (ys : List Cell) → 0 < length ys → cell_at 0 (put_in_place comes_before c ys) ≡ cond (comes_before c (cell_at 0 ys)) c (cell_at 0 ys)

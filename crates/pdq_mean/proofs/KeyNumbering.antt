@@ -19,12 +19,12 @@ use Rattle.pdq_value.proofs.Orders.{row_cmp-IsLinearOrder}
 use Rattle.pdq_query.specs.Queries.{QueryView}
 use Rattle.pdq_query.specs.Conditions.{Choice}
 use Rattle.pdq_query.specs.Folds.{is_grouped, is_row, key_of, keys_of}
-use Rattle.pdq_mean.specs.declared.leads.Led.{Led}
+use Rattle.pdq_mean.specs.declared.key_prefixes.Prefixed.{Prefixed}
 use Rattle.pdq_mean.specs.Groups.{AreNumbersOf, choices_of}
 use Rattle.pdq_mean.specs.Loops.{chosen, lists_of}
-use Rattle.pdq_mean.specs.Places.{IsLedPlace, IsNumbered, NumbersKeys, key_at, keys_at, led_place_cmp, numbers_at}
+use Rattle.pdq_mean.specs.Places.{IsPrefixedPlace, IsNumbered, NumbersKeys, key_at, keys_at, prefixed_place_cmp, numbers_at}
 use Rattle.pdq_mean.proofs.Grouping.{same_row}
-use Rattle.pdq_mean.proofs.PlaceOrders.{keys_sorted, led_places_agree}
+use Rattle.pdq_mean.proofs.PlaceOrders.{keys_sorted, prefixed_places_agree}
 
 module _ {X : Type 0} (same : X → X → Bool) (tells : (a b : X) → Decides (same a b) (a ≡ b)) where
   kept_head : (x : X) (ys : List X) → slice_get (dedup_from same x ys) 0 ≡ Some x
@@ -119,10 +119,10 @@ module _ {X : Type 0} (same : X → X → Bool) (tells : (a b : X) → Decides (
   pub some_counted : (xs : List X) (i : ℕ) → i < length xs → 0 < length (dedup same (take (i + 1) xs))
   some_counted xs i p = subst (λ k. 0 < length (dedup same (take k xs))) (sym (add-one i)) (some_so_far xs i p)
 
-pub one_more_place : (led : List (Led ℕ)) (l : Led ℕ) (n : ℕ) → map (λ (m : Led ℕ). m.item) led ≡ range_with_len 0 n → l.item ≡ n →
-    map (λ (m : Led ℕ). m.item) (led ++ l ∷ []) ≡ range_with_len 0 (n + 1)
-one_more_place led l n before is =
-    map-append (λ (m : Led ℕ). m.item) led (l ∷ []) ∙ ap₂ (λ ms k. ms ++ k ∷ []) before is ∙ sym (one_more_number 0 n n (omega arith))
+pub one_more_place : (prefixed : List (Prefixed ℕ)) (l : Prefixed ℕ) (n : ℕ) → map (λ (m : Prefixed ℕ). m.item) prefixed ≡ range_with_len 0 n → l.item ≡ n →
+    map (λ (m : Prefixed ℕ). m.item) (prefixed ++ l ∷ []) ≡ range_with_len 0 (n + 1)
+one_more_place prefixed l n before is =
+    map-append (λ (m : Prefixed ℕ). m.item) prefixed (l ∷ []) ∙ ap₂ (λ ms k. ms ++ k ∷ []) before is ∙ sym (one_more_number 0 n n (omega arith))
   where
     one_more_number : (a n j : ℕ) → a + n ≡ j → range_with_len a (n + 1) ≡ range_with_len a n ++ j ∷ []
     one_more_number a n j e = sym (same_numbers (range_with_len a (n + 1))) ∙ map-range_with_len_more (λ k. k) a n j e ∙ ap (λ ms. ms ++ j ∷ []) (same_numbers (range_with_len a n))
@@ -143,75 +143,75 @@ counted_by ks i x y b z p here before told =
     ∙ ap (λ n. length (dedup is_row (take i ks)) + n) (ap₂ (λ k l. cond (is_row k l) 0 1) here before ∙ told)
 
 module _ (tables : List TableView) (q : QueryView) (choices : List (Vec ℕ)) where
-  abbrev keys : List (Led ℕ) → List (List Cell)
-  keys led = keys_at tables q choices led
+  abbrev keys : List (Prefixed ℕ) → List (List Cell)
+  keys prefixed = keys_at tables q choices prefixed
 
-  key_is : (led : List (Led ℕ)) (i : ℕ) (d : Led ℕ) → i < length led → get_or (keys led) i [] ≡ key_at tables q choices (get_or led i d).item
-  key_is led i d p = get_or-map (λ (l : Led ℕ). key_at tables q choices l.item) led i d [] p
+  key_is : (prefixed : List (Prefixed ℕ)) (i : ℕ) (d : Prefixed ℕ) → i < length prefixed → get_or (keys prefixed) i [] ≡ key_at tables q choices (get_or prefixed i d).item
+  key_is prefixed i d p = get_or-map (λ (l : Prefixed ℕ). key_at tables q choices l.item) prefixed i d [] p
 
-  how_many : (led : List (Led ℕ)) → length (keys led) ≡ length led
-  how_many led = length-map led (λ (l : Led ℕ). key_at tables q choices l.item)
+  how_many : (prefixed : List (Prefixed ℕ)) → length (keys prefixed) ≡ length prefixed
+  how_many prefixed = length-map prefixed (λ (l : Prefixed ℕ). key_at tables q choices l.item)
 
-  pub first_key_counts : (led : List (Led ℕ)) (i : ℕ) → i ≡ 0 → i < length led → length (dedup is_row (take (i + 1) (keys led))) ≡ length (dedup is_row (take i (keys led))) + 1
-  first_key_counts led i e p = first_counts is_row same_row (keys led) i e (omega (arith, how_many led))
+  pub first_key_counts : (prefixed : List (Prefixed ℕ)) (i : ℕ) → i ≡ 0 → i < length prefixed → length (dedup is_row (take (i + 1) (keys prefixed))) ≡ length (dedup is_row (take i (keys prefixed))) + 1
+  first_key_counts prefixed i e p = first_counts is_row same_row (keys prefixed) i e (omega (arith, how_many prefixed))
 
   -- a key that is not the one before it is one more
-  pub next_key_counts : (led : List (Led ℕ)) → All (IsLedPlace tables q choices) led → (i : ℕ) (d e : Led ℕ) (b : Bool) → 0 < i → i < length led →
-      b ≡ is_ne (led_place_cmp tables q choices (get_or led i d) (get_or led (i - 1) e)) →
-      length (dedup is_row (take (i + 1) (keys led))) ≡ length (dedup is_row (take i (keys led))) + cond b 1 0
-  next_key_counts led leads i d e b z p is =
-      let x = get_or led i d in
-      let y = get_or led (i - 1) e in
-      let in_front : i - 1 < length led = omega arith in
+  pub next_key_counts : (prefixed : List (Prefixed ℕ)) → All (IsPrefixedPlace tables q choices) prefixed → (i : ℕ) (d e : Prefixed ℕ) (b : Bool) → 0 < i → i < length prefixed →
+      b ≡ is_ne (prefixed_place_cmp tables q choices (get_or prefixed i d) (get_or prefixed (i - 1) e)) →
+      length (dedup is_row (take (i + 1) (keys prefixed))) ≡ length (dedup is_row (take i (keys prefixed))) + cond b 1 0
+  next_key_counts prefixed prefixes i d e b z p is =
+      let x = get_or prefixed i d in
+      let y = get_or prefixed (i - 1) e in
+      let in_front : i - 1 < length prefixed = omega arith in
       let told = one_way (row_cmp (key_at tables q choices x.item) (key_at tables q choices y.item))
-      ∙ ap (λ o. cond (is_ne o) 1 0) (sym (led_places_agree tables q choices x y (leads i d p) (leads (i - 1) e in_front))) ∙ ap (λ t. cond t 1 0) (sym is) in
-      counted_by (keys led) i _ _ b z (omega (arith, how_many led)) (key_is led i d p) (key_is led (i - 1) e in_front) told
+      ∙ ap (λ o. cond (is_ne o) 1 0) (sym (prefixed_places_agree tables q choices x y (prefixes i d p) (prefixes (i - 1) e in_front))) ∙ ap (λ t. cond t 1 0) (sym is) in
+      counted_by (keys prefixed) i _ _ b z (omega (arith, how_many prefixed)) (key_is prefixed i d p) (key_is prefixed (i - 1) e in_front) told
 
-  pub some_key : (led : List (Led ℕ)) (i : ℕ) → i < length led → 0 < length (dedup is_row (take (i + 1) (keys led)))
-  some_key led i p = some_counted is_row same_row (keys led) i (omega (arith, how_many led))
+  pub some_key : (prefixed : List (Prefixed ℕ)) (i : ℕ) → i < length prefixed → 0 < length (dedup is_row (take (i + 1) (keys prefixed)))
+  some_key prefixed i p = some_counted is_row same_row (keys prefixed) i (omega (arith, how_many prefixed))
 
   -- one more place has its number, and those that have theirs keep it
-  pub one_more_numbered : (led : List (Led ℕ)) → All (IsLedPlace tables q choices) led → (i : ℕ) (d : Led ℕ) (numbers : List ℕ) (m : ℕ) → i < length led →
+  pub one_more_numbered : (prefixed : List (Prefixed ℕ)) → All (IsPrefixedPlace tables q choices) prefixed → (i : ℕ) (d : Prefixed ℕ) (numbers : List ℕ) (m : ℕ) → i < length prefixed →
       length numbers ≡ length choices →
-      length (dedup is_row (take (i + 1) (keys led))) ≡ m + 1 → All (IsNumbered tables q choices (dedup is_row (keys led)) numbers) (take i led) →
-      All (IsNumbered tables q choices (dedup is_row (keys led)) (set numbers (get_or led i d).item m)) (take (i + 1) led)
-  one_more_numbered led leads i d numbers m p size e h = All-more New led i d p (All-weaker Old New kept (take i led) h) here
+      length (dedup is_row (take (i + 1) (keys prefixed))) ≡ m + 1 → All (IsNumbered tables q choices (dedup is_row (keys prefixed)) numbers) (take i prefixed) →
+      All (IsNumbered tables q choices (dedup is_row (keys prefixed)) (set numbers (get_or prefixed i d).item m)) (take (i + 1) prefixed)
+  one_more_numbered prefixed prefixes i d numbers m p size e h = All-more New prefixed i d p (All-weaker Old New kept (take i prefixed) h) here
     where
       place : ℕ
-      place = (get_or led i d).item
+      place = (get_or prefixed i d).item
 
-      Old : Led ℕ → Type 0
-      Old = IsNumbered tables q choices (dedup is_row (keys led)) numbers
+      Old : Prefixed ℕ → Type 0
+      Old = IsNumbered tables q choices (dedup is_row (keys prefixed)) numbers
 
-      New : Led ℕ → Type 0
-      New = IsNumbered tables q choices (dedup is_row (keys led)) (set numbers place m)
+      New : Prefixed ℕ → Type 0
+      New = IsNumbered tables q choices (dedup is_row (keys prefixed)) (set numbers place m)
 
-      written : (n : ℕ) → n ≡ place → slice_get (dedup is_row (keys led)) (slice_index (set numbers place m) n) ≡ Some (key_at tables q choices n)
+      written : (n : ℕ) → n ≡ place → slice_get (dedup is_row (keys prefixed)) (slice_index (set numbers place m) n) ≡ Some (key_at tables q choices n)
       written n same =
-          ap (λ k. slice_get (dedup is_row (keys led)) (slice_index (set numbers place m) k)) same
-          ∙ ap (slice_get (dedup is_row (keys led))) (get_or-set_same numbers place m 0 (omega (arith, (leads i d p).within, size)))
-          ∙ count_found is_row same_row (keys led) i [] (omega (arith, p, how_many led)) m e
-          ∙ ap Some (key_is led i d p)
+          ap (λ k. slice_get (dedup is_row (keys prefixed)) (slice_index (set numbers place m) k)) same
+          ∙ ap (slice_get (dedup is_row (keys prefixed))) (get_or-set_same numbers place m 0 (omega (arith, (prefixes i d p).within, size)))
+          ∙ count_found is_row same_row (keys prefixed) i [] (omega (arith, p, how_many prefixed)) m e
+          ∙ ap Some (key_is prefixed i d p)
           ∙ ap (λ k. Some (key_at tables q choices k)) (sym same)
 
-      here : New (get_or led i d)
+      here : New (get_or prefixed i d)
       here = written place refl
 
-      kept : (l : Led ℕ) → Old l → New l
+      kept : (l : Prefixed ℕ) → Old l → New l
       kept l old = by (cases_eq l.item place)
         where
           by : (l.item ≡ place) ⊎ (l.item ≢ place) → New l
           by (inl same) = written l.item same
-          by (inr other) = ap (slice_get (dedup is_row (keys led))) (get_or-set_other numbers place l.item m 0 other) ∙ old
+          by (inr other) = ap (slice_get (dedup is_row (keys prefixed))) (get_or-set_other numbers place l.item m 0 other) ∙ old
 
   -- after the last place all have theirs
-  pub all_numbered : (led : List (Led ℕ)) (i : ℕ) (numbers : List ℕ) (count : ℕ) → length led ≤ i → length numbers ≡ length choices →
-      All (IsNumbered tables q choices (dedup is_row (keys led)) numbers) (take i led) → count ≡ length (dedup is_row (take i (keys led))) →
-      NumbersKeys tables q choices led numbers count
-  all_numbered led i numbers count p size h counted = record {
+  pub all_numbered : (prefixed : List (Prefixed ℕ)) (i : ℕ) (numbers : List ℕ) (count : ℕ) → length prefixed ≤ i → length numbers ≡ length choices →
+      All (IsNumbered tables q choices (dedup is_row (keys prefixed)) numbers) (take i prefixed) → count ≡ length (dedup is_row (take i (keys prefixed))) →
+      NumbersKeys tables q choices prefixed numbers count
+  all_numbered prefixed i numbers count p size h counted = record {
     one_each = size;
-    each = subst (All (IsNumbered tables q choices (dedup is_row (keys led)) numbers)) (take_all i led p) h;
-    all = counted ∙ ap (λ ks. length (dedup is_row ks)) (take_all i (keys led) (omega (arith, p, how_many led)));
+    each = subst (All (IsNumbered tables q choices (dedup is_row (keys prefixed)) numbers)) (take_all i prefixed p) h;
+    all = counted ∙ ap (λ ks. length (dedup is_row ks)) (take_all i (keys prefixed) (omega (arith, p, how_many prefixed)));
   }
 
   choice_at : (k : ℕ) → k < length choices → get_or (choices_of tables q choices) k (chosen tables q []) ≡ chosen tables q (numbers_at choices k)
@@ -238,27 +238,27 @@ module _ (tables : List TableView) (q : QueryView) (choices : List (Vec ℕ)) wh
       within : (k : ℕ) → k < length (map (key_at tables q choices) (range_with_len 0 (length choices))) → k < length choices
       within k p = omega (arith, p, size_of_keys)
 
-  by_places : (led : List (Led ℕ)) → map (key_at tables q choices) (map (λ (l : Led ℕ). l.item) led) ≡ keys led
+  by_places : (prefixed : List (Prefixed ℕ)) → map (key_at tables q choices) (map (λ (l : Prefixed ℕ). l.item) prefixed) ≡ keys prefixed
   by_places [] = refl
-  by_places (l ∷ led) = ap (λ ks. key_at tables q choices l.item ∷ ks) (by_places led)
+  by_places (l ∷ prefixed) = ap (λ ks. key_at tables q choices l.item ∷ ks) (by_places prefixed)
 
-  keys_moved : (before led : List (Led ℕ)) → map (λ (l : Led ℕ). l.item) before ≡ range_with_len 0 (length choices) → IsPermutation before led →
-      IsPermutation (map (key_of q) (choices_of tables q choices)) (keys led)
-  keys_moved before led places moved =
-      subst (λ ks. IsPermutation ks (keys led)) (sym (by_places before) ∙ ap (map (key_at tables q choices)) places ∙ all_keys)
-      (IsPermutation-map (λ (l : Led ℕ). key_at tables q choices l.item) before led moved)
+  keys_moved : (before prefixed : List (Prefixed ℕ)) → map (λ (l : Prefixed ℕ). l.item) before ≡ range_with_len 0 (length choices) → IsPermutation before prefixed →
+      IsPermutation (map (key_of q) (choices_of tables q choices)) (keys prefixed)
+  keys_moved before prefixed places moved =
+      subst (λ ks. IsPermutation ks (keys prefixed)) (sym (by_places before) ∙ ap (map (key_at tables q choices)) places ∙ all_keys)
+      (IsPermutation-map (λ (l : Prefixed ℕ). key_at tables q choices l.item) before prefixed moved)
 
-  module _ (before led : List (Led ℕ)) (places : map (λ (l : Led ℕ). l.item) before ≡ range_with_len 0 (length choices)) (moved : IsPermutation before led) where
+  module _ (before prefixed : List (Prefixed ℕ)) (places : map (λ (l : Prefixed ℕ). l.item) before ≡ range_with_len 0 (length choices)) (moved : IsPermutation before prefixed) where
     -- what holds at each place in the list holds at each place
-    at_each : (P : ℕ → Type 0) → All (λ (l : Led ℕ). P l.item) led → (k : ℕ) → k < length choices → P k
+    at_each : (P : ℕ → Type 0) → All (λ (l : Prefixed ℕ). P l.item) prefixed → (k : ℕ) → k < length choices → P k
     at_each P h k p =
-        let item = λ (l : Led ℕ). l.item in
-        let back : IsPermutation (map item led) (map item before) = IsPermutation-sym _ _ (IsPermutation-map item before led moved) in
-        let all : All P (range_with_len 0 (length choices)) = subst (All P) places (All-permutation P (map item led) (map item before) back (All-map P item led h)) in
+        let item = λ (l : Prefixed ℕ). l.item in
+        let back : IsPermutation (map item prefixed) (map item before) = IsPermutation-sym _ _ (IsPermutation-map item before prefixed moved) in
+        let all : All P (range_with_len 0 (length choices)) = subst (All P) places (All-permutation P (map item prefixed) (map item before) back (All-map P item prefixed h)) in
         let here : get_or (range_with_len 0 (length choices)) k 0 ≡ k = omega (arith, get_or-range_with_len 0 (length choices) k 0 p) in
         subst P here (all k 0 (omega (arith, p, length-range_with_len 0 (length choices))))
 
-    each_numbered : (ks : List (List Cell)) (numbers : List ℕ) → length numbers ≡ length choices → All (IsNumbered tables q choices ks numbers) led →
+    each_numbered : (ks : List (List Cell)) (numbers : List ℕ) → length numbers ≡ length choices → All (IsNumbered tables q choices ks numbers) prefixed →
         map (slice_get ks) numbers ≡ map (λ c. Some (key_of q c)) (choices_of tables q choices)
     each_numbered ks numbers size h = same_lists _ _ same (λ k d p.
         let here : k < length numbers = omega (arith, p, length-map numbers (slice_get ks)) in
@@ -271,18 +271,18 @@ module _ (tables : List TableView) (q : QueryView) (choices : List (Vec ℕ)) wh
         same = length-map numbers (slice_get ks) ∙ size ∙ sym (length-map (choices_of tables q choices) (λ c. Some (key_of q c)) ∙ as_many)
 
     -- the numbers of the keys of places in their order are those of the keys of the choices
-    pub numbers_are : is_grouped q ≡ true → All (IsLedPlace tables q choices) led → IsSorted (led_place_cmp tables q choices) led → (numbers : List ℕ) (count : ℕ) →
+    pub numbers_are : is_grouped q ≡ true → All (IsPrefixedPlace tables q choices) prefixed → IsSorted (prefixed_place_cmp tables q choices) prefixed → (numbers : List ℕ) (count : ℕ) →
         length numbers ≡ length choices →
-        All (IsNumbered tables q choices (dedup is_row (keys led)) numbers) led → count ≡ length (dedup is_row (keys led)) →
+        All (IsNumbered tables q choices (dedup is_row (keys prefixed)) numbers) prefixed → count ≡ length (dedup is_row (keys prefixed)) →
         AreNumbersOf q (choices_of tables q choices) numbers count
     unfolding keys_of
-    numbers_are grouped leads sorted numbers count size h counted =
+    numbers_are grouped prefixes sorted numbers count size h counted =
         let cs = choices_of tables q choices in
-        let in_their_order : keys led ≡ in_order row_cmp (map (key_of q) cs) =
-        in_order-from_sorted row_cmp-IsLinearOrder (map (key_of q) cs) (keys led) (keys_moved before led places moved) (keys_sorted tables q choices led leads sorted) in
-        let so : keys_of q cs ≡ dedup is_row (keys led) =
+        let in_their_order : keys prefixed ≡ in_order row_cmp (map (key_of q) cs) =
+        in_order-from_sorted row_cmp-IsLinearOrder (map (key_of q) cs) (keys prefixed) (keys_moved before prefixed places moved) (keys_sorted tables q choices prefixed prefixes sorted) in
+        let so : keys_of q cs ≡ dedup is_row (keys prefixed) =
         ap (λ b. cond b (dedup is_row (in_order row_cmp (map (key_of q) cs))) ([] ∷ [])) grouped ∙ ap (dedup is_row) (sym in_their_order) in
         record {
-          each = ap (λ ks. map (slice_get ks) numbers) so ∙ each_numbered (dedup is_row (keys led)) numbers size h;
+          each = ap (λ ks. map (slice_get ks) numbers) so ∙ each_numbered (dedup is_row (keys prefixed)) numbers size h;
           all = counted ∙ ap length (sym so);
         }

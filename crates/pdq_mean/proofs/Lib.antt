@@ -5,12 +5,13 @@ pub mod NestedLoops
 pub mod Columns
 pub mod SmallCells
 pub mod Extremes
+pub mod Values
 pub mod PlainItems
 pub mod Sorts
 pub mod Evaluating
 pub mod Scales
 pub mod Tallying
-pub mod LeadOrders
+pub mod KeyPrefixOrders
 pub mod PlaceOrders
 pub mod KeyNumbering
 pub mod Grouping

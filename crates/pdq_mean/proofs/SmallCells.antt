@@ -23,6 +23,8 @@ abbrev HasSmallCells : List Cell → Type 0
 HasSmallCells row = (i : ℕ) → IsSmall (cell_at i row)
 
 small_value : (k : Kind) (v : Value) → IsKind k → IsValueOf k v → IsSmall (cell_of k v)
+small_value (kind.Number s) value.Null h k = record { size = omega arith; places = omega arith }
+small_value kind.Words value.Null h k = record { size = omega arith; places = omega arith }
 small_value (kind.Number s) (value.Number z) h k = record { size = le_of_lt k; places = h }
 small_value (kind.Number s) (value.Words t) h k = absurd k
 small_value kind.Words (value.Number z) h k = absurd k

@@ -1,19 +1,21 @@
 -- Tallies: one choice more, their bounds, and what they say.
-use Rattle.std.proofs.Common.{◌≡◌, ◌<◌, ◌≤◌, ◌≢◌, ◌+◌, ◌*◌, ◌^◌, ◌++◌, ℕ, suc, List, [], ◌∷◌, Bool, cond, is_lt, refl, sym, ap, ap₂, ◌∙◌, subst, arith, length, get_or, set, append-nil, drop, get_or-set_other, get_or-set_same, below_more, take, add-one, map, max, ◌+ℤ◌, nat_abs, All}
+use Rattle.std.proofs.Common.{◌≡◌, ◌<◌, ◌≤◌, ◌≢◌, ◌+◌, ◌*◌, ◌^◌, ◌++◌, ℕ, suc, List, [], ◌∷◌, Bool, true, false, cond, is_lt, ℤ, pos, refl, sym, ap, ap₂, ◌∙◌, subst, arith, length, get_or, set, append-nil, drop, get_or-set_other, get_or-set_same, below_more, take, add-one, map, max, ◌+ℤ◌, nat_abs, All}
 use Rattle.std.specs.Global.{Vec}
+use Rattle.std.proofs.lemmas.Bool.{eq-eqb, ne_eqb}
+use Rattle.std.proofs.lemmas.Int.{ints}
 use Rattle.std.proofs.lemmas.List.{drop_all, length-map, length-take, map-append, take_all, take_more}
 use Rattle.std.proofs.lemmas.List.Elements.{All-append, All-cons, All-head, All-nil, All-tail}
 use Rattle.pdq_value.specs.declared.cells.Cell.{Cell}
-use Rattle.pdq_value.specs.declared.cells.Cell.TheVariants.{Number}
+use Rattle.pdq_value.specs.declared.cells.Cell.TheVariants.{Nothing, Number}
 use Rattle.pdq_value.specs.Averages.{average_of}
 use Rattle.pdq_value.specs.Cells.{cell_cmp, number_of, scale_of}
 use Rattle.pdq_value.specs.Tables.{IsDatabase, TableView}
 use Rattle.pdq_query.specs.declared.query.At.{At}
 use Rattle.pdq_query.specs.declared.query.Item.{Item}
 use Rattle.pdq_query.specs.Queries.{QueryView}
-use Rattle.pdq_query.specs.Conditions.{Choice, cell_in}
+use Rattle.pdq_query.specs.Conditions.{Choice, cell_in, is_something}
 use Rattle.pdq_query.specs.Fits.{IsPlainInGroups}
-use Rattle.pdq_query.specs.Folds.{average_cell, greatest_of, item_of_group, least_of, scale_in, sum_of, total_of}
+use Rattle.pdq_query.specs.Folds.{average_cell, greatest_of, item_of_group, least_of, scale_in, sum_of, total_of, values_in}
 use Rattle.pdq_mean.specs.declared.cell_ref.CellRef.{CellRef}
 use Rattle.pdq_mean.specs.declared.tallies.Tally.{Tally}
 use Rattle.pdq_mean.specs.declared.tallies.Tally.TheVariants.{First, Sum, Average, Least, Greatest, Count}
@@ -21,31 +23,22 @@ use Rattle.pdq_mean.specs.declared.tallies.Total.{Total}
 use Rattle.pdq_mean.specs.CellRefs.{cell_of_ref}
 use Rattle.pdq_mean.specs.Loops.{chosen, lists_of}
 use Rattle.pdq_mean.specs.Groups.{choices_of, first_key}
-use Rattle.pdq_mean.specs.Tallies.{AreTalliesOf, IsTallyOf, IsTotalOf, IsTotalWithin, IsWithin, AllTakeIn, TakesIn, cell_of_tally, item_of_tally}
-use Rattle.pdq_mean.proofs.Columns.{choices_of-more, nat_abs-sum, scale_in-append, total_of-append}
-use Rattle.pdq_mean.proofs.Extremes.{greatest_step, least_step}
+use Rattle.pdq_mean.specs.Tallies.{AreTalliesOf, IsTallyOf, IsTotalOf, IsTotalWithin, IsWithin, AllTakeIn, TakesIn, average_of_total, cell_of_tally, item_of_tally, lesser_cell, sum_cell}
+use Rattle.pdq_mean.proofs.Columns.{choices_of-more, nat_abs-sum}
 use Rattle.pdq_mean.proofs.PlainItems.{get_or-any, item_of_group-plain}
-use Rattle.pdq_mean.proofs.SmallCells.{small_cell}
-
--- the cells of a column
-abbrev column : At → List Choice → List Cell
-column at cs = map (λ c. cell_in c at) cs
+use Rattle.pdq_mean.proofs.SmallCells.{IsSmall, small_cell}
+use Rattle.pdq_mean.proofs.Values.{greatest_of-more, least_of-more, length-more, scale_in-more, total_of-more, values_in-more}
 
 -- one choice more
 module _ (at : At) (c : Choice) where
-  column-more : (cs : List Choice) → column at (cs ++ c ∷ []) ≡ column at cs ++ cell_in c at ∷ []
-  column-more cs = map-append (λ d. cell_in d at) cs (c ∷ [])
-
-  some_cell : (cs : List Choice) → 0 < length cs → 0 < length (column at cs)
-  some_cell cs some = let size = length-map cs (λ d. cell_in d at) in omega arith
-
   module _ (t n u : Total)
-      (number : n.unscaled ≡ number_of (cell_in c at)) (scale : n.scale ≡ scale_of (cell_in c at))
-      (sum : u.unscaled ≡ t.unscaled +ℤ n.unscaled) (most : u.scale ≡ max t.scale n.scale) where
-    total-more : (cs : List Choice) → IsTotalOf (column at cs) t → IsTotalOf (column at (cs ++ c ∷ [])) u
+      (number : n.unscaled ≡ number_of (cell_in c at)) (scale : n.scale ≡ scale_of (cell_in c at)) (one : n.rows ≡ cond (is_something (cell_in c at)) 1 0)
+      (sum : u.unscaled ≡ t.unscaled +ℤ n.unscaled) (most : u.scale ≡ max t.scale n.scale) (rows : u.rows ≡ t.rows + n.rows) where
+    total-more : (cs : List Choice) → IsTotalOf (values_in at cs) t → IsTotalOf (values_in at (cs ++ c ∷ [])) u
     total-more cs h = record {
-      value = sum ∙ ap₂ (λ a b. a +ℤ b) h.value number ∙ sym (total_of-append (column at cs) (cell_in c at)) ∙ ap total_of (sym (column-more cs));
-      scale = most ∙ ap₂ max h.scale scale ∙ sym (scale_in-append (column at cs) (cell_in c at)) ∙ ap scale_in (sym (column-more cs));
+      value = sum ∙ ap₂ (λ a b. a +ℤ b) h.value number ∙ sym (total_of-more (values_in at cs) (cell_in c at)) ∙ ap total_of (sym (values_in-more at cs c));
+      scale = most ∙ ap₂ max h.scale scale ∙ sym (scale_in-more (values_in at cs) (cell_in c at)) ∙ ap scale_in (sym (values_in-more at cs c));
+      rows = rows ∙ ap₂ (λ a b. a + b) h.rows one ∙ sym (length-more (values_in at cs) (cell_in c at)) ∙ ap length (sym (values_in-more at cs c));
     }
 
     pub sum-takes_in : TakesIn c (Sum at t) (Sum at u)
@@ -58,13 +51,10 @@ module _ (at : At) (c : Choice) where
     abbrev comes_first : Bool
     comes_first = is_lt (cell_cmp (cell_of_ref cell) (cell_of_ref m))
 
-    pub least-takes_in : cell_of_ref n ≡ cond comes_first (cell_of_ref cell) (cell_of_ref m) → TakesIn c (Least at m) (Least at n)
+    pub least-takes_in : cell_of_ref n ≡ lesser_cell (cell_of_ref cell) (cell_of_ref m) → TakesIn c (Least at m) (Least at n)
     least-takes_in f = record {
       item = refl;
-      more = λ cs some h.
-          f ∙ ap₂ (λ a b. cond (is_lt (cell_cmp b a)) b a) h e
-          ∙ sym (least_step (column at cs) (cell_in c at) (some_cell cs some))
-          ∙ ap least_of (sym (column-more cs));
+      more = λ cs some h. f ∙ ap₂ (λ a b. lesser_cell b a) h e ∙ sym (least_of-more at cs (cell_in c at)) ∙ ap least_of (sym (values_in-more at cs c));
     }
 
     pub greatest-takes_in : cell_of_ref n ≡ cond comes_first (cell_of_ref m) (cell_of_ref cell) → TakesIn c (Greatest at m) (Greatest at n)
@@ -72,9 +62,28 @@ module _ (at : At) (c : Choice) where
       item = refl;
       more = λ cs some h.
           f ∙ ap₂ (λ a b. cond (is_lt (cell_cmp b a)) a b) h e
-          ∙ sym (greatest_step (column at cs) (cell_in c at) (some_cell cs some))
-          ∙ ap greatest_of (sym (column-more cs));
+          ∙ sym (greatest_of-more (values_in at cs) (cell_in c at))
+          ∙ ap greatest_of (sym (values_in-more at cs c));
     }
+
+-- the total of one choice
+pub total-one : (at : At) (c : Choice) (n : Total) → n.unscaled ≡ number_of (cell_in c at) → n.scale ≡ scale_of (cell_in c at) → n.rows ≡ cond (is_something (cell_in c at)) 1 0 → IsTotalOf (values_in at (c ∷ [])) n
+total-one at c n number scale one =
+    let x = cell_in c at in
+    record {
+      value = number ∙ zero_plus (number_of x) ∙ sym (total_of-more [] x);
+      scale = scale ∙ zero_max (scale_of x) ∙ sym (scale_in-more [] x);
+      rows = one ∙ none_plus (cond (is_something x) 1 0) ∙ sym (length-more [] x);
+    }
+  where
+    zero_plus : (z : ℤ) → z ≡ pos 0 +ℤ z
+    zero_plus z = omega (arith, ints)
+
+    zero_max : (n : ℕ) → n ≡ max 0 n
+    zero_max n = omega arith
+
+    none_plus : (n : ℕ) → n ≡ 0 + n
+    none_plus n = omega arith
 
 -- the tally of one item more
 module _ (items seen : List Item) (same : seen ≡ items) (cs : List Choice) (ts : List Tally) (t : Tally) where
@@ -122,26 +131,41 @@ module _ (c : Choice) where
 
 -- the tallies of a database's choices are small
 module _ (tables : List TableView) (q : QueryView) (database : IsDatabase tables) where
-  small_total : (at : At) (vs : List (Vec ℕ)) → nat_abs (total_of (column at (choices_of tables q vs))) ≤ length vs * 10 ^ 18
-  small_total at [] = omega arith
-  small_total at (v ∷ vs) =
-      let here = (small_cell tables q database v.items at).size in
-      let first = number_of (cell_in (chosen tables q v.items) at) in
-      let later = total_of (column at (choices_of tables q vs)) in
-      let sum = nat_abs-sum first later (10 ^ 18) (length vs * 10 ^ 18) here (small_total at vs) in
-      omega (arith, sum)
+  -- the values of a column, and one row more
+  abbrev there : At → List (Vec ℕ) → List Cell
+  there at vs = values_in at (choices_of tables q vs)
 
-  few_places : (at : At) (vs : List (Vec ℕ)) → scale_in (column at (choices_of tables q vs)) ≤ 6
-  few_places at [] = omega arith
-  few_places at (v ∷ vs) =
-      let here = (small_cell tables q database v.items at).places in
-      let later = few_places at vs in
-      omega arith
+  record AreSmall (cells : List Cell) (most : ℕ) : Type 0 where
+    size : nat_abs (total_of cells) ≤ length cells * 10 ^ 18
+    few : length cells ≤ most
+    places : scale_in cells ≤ 6
 
-  total-within : (at : At) (vs : List (Vec ℕ)) (rows : ℕ) → length vs ≤ rows → (t : Total) → IsTotalOf (column at (choices_of tables q vs)) t → IsTotalWithin rows t
+  small_values : (at : At) (vs : List (Vec ℕ)) → AreSmall (there at vs) (length vs)
+  small_values at [] = record { size = omega arith; few = omega arith; places = omega arith }
+  small_values at (v ∷ vs) =
+      let c = cell_in (chosen tables q v.items) at in
+      by (is_something c) c (small_cell tables q database v.items at) (small_values at vs)
+    where
+      by : (b : Bool) (c : Cell) → IsSmall c → AreSmall (there at vs) (length vs) → AreSmall (cond b (c ∷ there at vs) (there at vs)) (suc (length vs))
+      by true c here h =
+          let size = here.size in
+          let later = h.size in
+          let places = here.places in
+          let deeper = h.places in
+          let few = h.few in
+          let sum = nat_abs-sum (number_of c) (total_of (there at vs)) (10 ^ 18) (length (there at vs) * 10 ^ 18) size later in
+          record { size = omega (arith, sum); few = omega (arith, few); places = omega (arith, places, deeper) }
+      by false c here h = let few = h.few in record { size = h.size; few = omega (arith, few); places = h.places }
+
+  total-within : (at : At) (vs : List (Vec ℕ)) (rows : ℕ) → length vs ≤ rows → (t : Total) → IsTotalOf (there at vs) t → IsTotalWithin rows t
   total-within at vs rows few t h =
-      let size : nat_abs t.unscaled ≤ length vs * 10 ^ 18 = subst (λ z. nat_abs z ≤ length vs * 10 ^ 18) (sym h.value) (small_total at vs) in
-      record { size = omega (arith, size); places = subst (λ n. n ≤ 6) (sym h.scale) (few_places at vs) }
+      let small = small_values at vs in
+      let least = small.few in
+      record {
+        size = subst (λ n. nat_abs t.unscaled ≤ n * 10 ^ 18) (sym h.rows) (subst (λ z. nat_abs z ≤ length (there at vs) * 10 ^ 18) (sym h.value) small.size);
+        few = omega (arith, h.rows, least, few);
+        places = subst (λ n. n ≤ 6) (sym h.scale) small.places;
+      }
 
   within : (vs : List (Vec ℕ)) (rows : ℕ) → length vs ≤ rows → (t : Tally) → IsTallyOf (choices_of tables q vs) t → IsWithin rows t
   within vs rows few (First at c) h = tt
@@ -157,22 +181,26 @@ module _ (tables : List TableView) (q : QueryView) (database : IsDatabase tables
       let P = IsTallyOf (choices_of tables q vs) in
       All-cons (IsWithin rows) t ts (within vs rows few t (All-head P t ts h)) (tallies-within vs rows few ts (All-tail P t ts h))
 
+-- what a total says of its cells
+sum_is : (cells : List Cell) (t : Total) → IsTotalOf cells t → sum_cell t ≡ sum_of cells
+sum_is [] t h = ap (λ b. cond b Nothing (Number t.unscaled t.scale)) (eq-eqb t.rows 0 h.rows)
+sum_is (x ∷ xs) t h = ap (λ b. cond b Nothing (Number t.unscaled t.scale)) (ne_eqb t.rows 0 (λ e. omega (arith, e, h.rows))) ∙ ap₂ Number h.value h.scale
+
+average_is : (cells : List Cell) (t : Total) → IsTotalOf cells t → average_of_total t ≡ average_cell cells
+average_is [] t h = ap (λ b. cond b Nothing (Number (average_of t.unscaled t.rows) (t.scale + 2))) (eq-eqb t.rows 0 h.rows)
+average_is (x ∷ xs) t h =
+    ap (λ b. cond b Nothing (Number (average_of t.unscaled t.rows) (t.scale + 2))) (ne_eqb t.rows 0 (λ e. omega (arith, e, h.rows))) ∙ ap₂ (λ z s. Number z (s + 2)) (ap₂ average_of h.value h.rows) h.scale
+
 -- what the tallies say is what the items say of a group
 module _ (q : QueryView) (c : Choice) (cs : List Choice) where
   abbrev item_cell : Item → Cell
   item_cell i = item_of_group q (first_key q (c ∷ cs)) (c ∷ cs) i
 
-  sum_cell : (at : At) (t : Total) → IsTotalOf (column at (c ∷ cs)) t → Number t.unscaled t.scale ≡ sum_of (column at (c ∷ cs))
-  sum_cell at t h = ap₂ Number h.value h.scale
-
-  average_is : (at : At) (t : Total) → IsTotalOf (column at (c ∷ cs)) t → Number (average_of t.unscaled (length (c ∷ cs))) (t.scale + 2) ≡ average_cell (column at (c ∷ cs))
-  average_is at t h = ap₂ (λ z s. Number z (s + 2)) (ap₂ average_of h.value (sym (length-map (c ∷ cs) (λ d. cell_in d at)))) h.scale
-
   says : (t : Tally) → IsTallyOf (c ∷ cs) t → IsPlainInGroups q.groups (item_of_tally t) → cell_of_tally (length (c ∷ cs)) t ≡ item_cell (item_of_tally t)
   unfolding item_of_group
   says (First at m) h k = h ∙ sym (item_of_group-plain q (c ∷ cs) at k)
-  says (Sum at t) h k = sum_cell at t h
-  says (Average at t) h k = average_is at t h
+  says (Sum at t) h k = sum_is (values_in at (c ∷ cs)) t h
+  says (Average at t) h k = average_is (values_in at (c ∷ cs)) t h
   says (Least at m) h k = h
   says (Greatest at m) h k = h
   says Count h k = refl

@@ -4,5 +4,5 @@ pub mod Groups
 pub mod Rows
 pub mod Tallies
 pub mod Grouping
-pub mod Leads
+pub mod KeyPrefixes
 pub mod Places

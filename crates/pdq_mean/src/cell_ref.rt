@@ -13,14 +13,15 @@ use std::cmp::Ordering;
 pub enum CellRef<'a> {
     Nothing,
     Number { unscaled: i128, scale: u32 },
-    Words(&'a [u8]),
+    Words(&'a Text),
 }
 
-/// The cell of a value in a column of this kind.
+/// The cell of a value in a column of this kind: nothing where it is `Null`.
 pub fn cell_ref(kind: Kind, value: &Value) -> CellRef<'_>
     ensures value { cell_of_ref result ≡ cell_of kind value.now }
 {
     match value {
+        Value::Null => CellRef::Nothing,
         Value::Number(unscaled) => match kind {
             Kind::Number { scale } => CellRef::Number {
                 unscaled: i128::from(*unscaled),
@@ -31,7 +32,7 @@ pub fn cell_ref(kind: Kind, value: &Value) -> CellRef<'_>
                 scale: 0,
             },
         },
-        Value::Words(text) => CellRef::Words(text.bytes()),
+        Value::Words(text) => CellRef::Words(text),
     }
 }
 
@@ -45,7 +46,7 @@ pub fn borrowed(cell: &Cell) -> CellRef<'_>
             unscaled: *unscaled,
             scale: *scale,
         },
-        Cell::Words(text) => CellRef::Words(text.bytes()),
+        Cell::Words(text) => CellRef::Words(text),
     }
 }
 
@@ -80,7 +81,7 @@ pub fn compare_refs(a: CellRef<'_>, b: CellRef<'_>) -> Ordering
         ) => x.cmp(&y).then(s.cmp(&t)),
         (CellRef::Number { .. }, CellRef::Words(_)) => Ordering::Less,
         (CellRef::Words(_), CellRef::Number { .. }) => Ordering::Greater,
-        (CellRef::Words(x), CellRef::Words(y)) => x.cmp(y),
+        (CellRef::Words(x), CellRef::Words(y)) => x.bytes().cmp(&y.bytes()),
     }
 }
 
@@ -94,6 +95,6 @@ pub fn owned(alloc: Global, cell: CellRef<'_>) -> Result<Cell, Memory>
     match cell {
         CellRef::Nothing => Ok(Cell::Nothing),
         CellRef::Number { unscaled, scale } => Ok(Cell::Number { unscaled, scale }),
-        CellRef::Words(bytes) => Ok(Cell::Words(Text::from_bytes(alloc, bytes)?)),
+        CellRef::Words(text) => Ok(Cell::Words(text.copy(alloc)?)),
     }
 }

@@ -7,11 +7,11 @@ ghost use Rattle.pdq_query.specs.Conditions.{cell_in};
 ghost use Rattle.pdq_query.specs.Folds.{key_of};
 ghost use Rattle.pdq_mean.specs.CellRefs.{cell_of_ref};
 ghost use Rattle.pdq_mean.specs.Loops.{chosen};
-ghost use Rattle.pdq_mean.specs.Leads.{columns_left};
+ghost use Rattle.pdq_mean.specs.KeyPrefixes.{columns_left};
 
 use crate::cell_ref::{CellRef, compare_refs};
 use crate::conditions::cell_in;
-use crate::leads::{Lead, is_whole};
+use crate::key_prefixes::{KeyPrefix, is_whole};
 use pdq_query::{At, Query};
 use pdq_value::Db;
 use std::cmp::Ordering;
@@ -39,12 +39,12 @@ pub fn first_key_cell<'a>(db: &'a Db, query: &Query, choice: &[usize]) -> CellRe
     }
 }
 
-/// The group columns that tell choices apart whose leads tie.
-pub fn columns_left<'a>(query: &'a Query, lead: &Lead) -> &'a [At]
-    ensures value { result.now ≡ columns_left (query_of query.now) lead.now }
+/// The group columns that tell choices apart whose prefixes tie.
+pub fn columns_left<'a>(query: &'a Query, prefix: &KeyPrefix) -> &'a [At]
+    ensures value { result.now ≡ columns_left (query_of query.now) prefix.now }
 {
     match query.groups.split_first() {
-        Some((_, later)) if is_whole(lead) => later,
+        Some((_, later)) if is_whole(prefix) => later,
         _ => &query.groups,
     }
 }

@@ -7,10 +7,10 @@ ghost use Rattle.pdq_query.specs.Queries.{query_of};
 ghost use Rattle.pdq_query.specs.Folds.{is_grouped, is_row};
 ghost use Rattle.pdq_query.specs.Answer.{row_limit};
 ghost use Rattle.pdq_mean.specs.Groups.{AreNumbersOf, choices_of};
-ghost use Rattle.pdq_mean.specs.Places.{IsLedPlace, NumbersKeys, keys_at, led_place_cmp, numbers_at};
+ghost use Rattle.pdq_mean.specs.Places.{IsPrefixedPlace, NumbersKeys, keys_at, prefixed_place_cmp, numbers_at};
 
 use crate::group_columns::{columns_left, compare_columns, first_key_cell};
-use crate::leads::{Led, compare_leads, lead_of};
+use crate::key_prefixes::{Prefixed, compare_prefixes, prefix_of};
 use pdq_base::Memory;
 use pdq_query::Query;
 use pdq_value::Db;
@@ -34,51 +34,57 @@ fn numbers_at(choices: &[Vec<usize>], place: usize) -> &[usize]
     }
 }
 
-fn led_place(db: &Db, query: &Query, choices: &[Vec<usize>], place: usize) -> Led<usize>
+fn prefixed_place(db: &Db, query: &Query, choices: &[Vec<usize>], place: usize) -> Prefixed<usize>
     requires within { place < length choices.now }
     ensures item { result.item ≡ place }
-    ensures lead { IsLedPlace (tables_of db.now) (query_of query.now) choices.now result }
+    ensures prefix { IsPrefixedPlace (tables_of db.now) (query_of query.now) choices.now result }
 {
-    let lead = lead_of(first_key_cell(db, query, numbers_at(choices, place)));
-    Led { lead, item: place }
+    let prefix = prefix_of(first_key_cell(db, query, numbers_at(choices, place)));
+    Prefixed {
+        prefix,
+        item: place,
+    }
 }
 
-/// The places of the choices, each beside the lead of its choice's cell in the first group column.
-fn led_places(
+/// The places of the choices, each beside the prefix of its choice's cell in the first group column.
+fn prefixed_places(
     alloc: Global,
     db: &Db,
     query: &Query,
     choices: &[Vec<usize>],
-) -> Result<Vec<Led<usize>>, Memory>
-    ensures places { IfOk result (λ led. map (λ l. l.item) led.items ≡ range_with_len 0 (length choices.now)) }
-    ensures leads { IfOk result (λ led. All (IsLedPlace (tables_of db.now) (query_of query.now) choices.now) led.items) }
+) -> Result<Vec<Prefixed<usize>>, Memory>
+    ensures places { IfOk result (λ prefixed. map (λ l. l.item) prefixed.items ≡ range_with_len 0 (length choices.now)) }
+    ensures prefixes { IfOk result (λ prefixed. All (IsPrefixedPlace (tables_of db.now) (query_of query.now) choices.now) prefixed.items) }
 {
-    let Ok(mut led) = Vec::with_capacity(alloc, choices.len()) else {
+    let Ok(mut prefixed) = Vec::with_capacity(alloc, choices.len()) else {
         return Err(Memory);
     };
     for place in 0..choices.len() {
-        if led.push(led_place(db, query, choices, place)).is_err() {
+        if prefixed
+            .push(prefixed_place(db, query, choices, place))
+            .is_err()
+        {
             return Err(Memory);
         }
     }
-    Ok(led)
+    Ok(prefixed)
 }
 
-/// By the leads; where they tie, by the cells that are left. Where none is left, the choices are not looked up.
-fn compare_led_places(
+/// By the prefixes; where they tie, by the cells that are left. Where none is left, the choices are not looked up.
+fn compare_prefixed_places(
     db: &Db,
     query: &Query,
     choices: &[Vec<usize>],
-    a: &Led<usize>,
-    b: &Led<usize>,
+    a: &Prefixed<usize>,
+    b: &Prefixed<usize>,
 ) -> Ordering
-    ensures order { result ≡ led_place_cmp (tables_of db.now) (query_of query.now) choices.now a.now b.now }
+    ensures order { result ≡ prefixed_place_cmp (tables_of db.now) (query_of query.now) choices.now a.now b.now }
 {
-    let order = compare_leads(&a.lead, &b.lead);
+    let order = compare_prefixes(&a.prefix, &b.prefix);
     if order.is_ne() {
         return order;
     }
-    let columns = columns_left(query, &a.lead);
+    let columns = columns_left(query, &a.prefix);
     if columns.is_empty() {
         return order;
     }
@@ -87,11 +93,16 @@ fn compare_led_places(
     compare_columns(db, query, columns, first, second)
 }
 
-fn sort_led_places(db: &Db, query: &Query, choices: &[Vec<usize>], led: &mut Vec<Led<usize>>)
-    ensures permutation { IsPermutation led.old.items led.new.items }
-    ensures sorted { IsSorted (led_place_cmp (tables_of db.now) (query_of query.now) choices.now) led.new.items }
+fn sort_prefixed_places(
+    db: &Db,
+    query: &Query,
+    choices: &[Vec<usize>],
+    prefixed: &mut Vec<Prefixed<usize>>,
+)
+    ensures permutation { IsPermutation prefixed.old.items prefixed.new.items }
+    ensures sorted { IsSorted (prefixed_place_cmp (tables_of db.now) (query_of query.now) choices.now) prefixed.new.items }
 {
-    led.sort_unstable_by(|a, b| compare_led_places(db, query, choices, a, b));
+    prefixed.sort_unstable_by(|a, b| compare_prefixed_places(db, query, choices, a, b));
 }
 
 /// Whether a place in the sorted list has another key than the one before it, or none is before it.
@@ -99,17 +110,17 @@ fn starts_key(
     db: &Db,
     query: &Query,
     choices: &[Vec<usize>],
-    led: &[Led<usize>],
+    prefixed: &[Prefixed<usize>],
     index: usize,
 ) -> bool
-    requires within { index < length led.now }
-    requires leads { All (IsLedPlace (tables_of db.now) (query_of query.now) choices.now) led.now }
-    ensures one_more { let keys = keys_at (tables_of db.now) (query_of query.now) choices.now led.now in length (dedup is_row (take (index + 1) keys)) ≡ length (dedup is_row (take index keys)) + (if result then 1 else 0) }
+    requires within { index < length prefixed.now }
+    requires prefixes { All (IsPrefixedPlace (tables_of db.now) (query_of query.now) choices.now) prefixed.now }
+    ensures one_more { let keys = keys_at (tables_of db.now) (query_of query.now) choices.now prefixed.now in length (dedup is_row (take (index + 1) keys)) ≡ length (dedup is_row (take index keys)) + (if result then 1 else 0) }
 {
     if index == 0 {
         return true;
     }
-    compare_led_places(db, query, choices, &led[index], &led[index - 1]).is_ne()
+    compare_prefixed_places(db, query, choices, &prefixed[index], &prefixed[index - 1]).is_ne()
 }
 
 /// In one walk over the sorted places, the number of each choice's key.
@@ -118,20 +129,20 @@ fn number_sorted(
     db: &Db,
     query: &Query,
     choices: &[Vec<usize>],
-    led: &[Led<usize>],
+    prefixed: &[Prefixed<usize>],
 ) -> Result<KeyNumbers, Memory>
-    requires leads { All (IsLedPlace (tables_of db.now) (query_of query.now) choices.now) led.now }
-    ensures numbers { IfOk result (λ n. NumbersKeys (tables_of db.now) (query_of query.now) choices.now led.now n.numbers.items n.count) }
+    requires prefixes { All (IsPrefixedPlace (tables_of db.now) (query_of query.now) choices.now) prefixed.now }
+    ensures numbers { IfOk result (λ n. NumbersKeys (tables_of db.now) (query_of query.now) choices.now prefixed.now n.numbers.items n.count) }
 {
     let Ok(mut numbers) = vec![in alloc; 0; choices.len()] else {
         return Err(Memory);
     };
     let mut count: usize = 0;
-    for index in 0..led.len() {
-        if starts_key(db, query, choices, led, index) {
+    for index in 0..prefixed.len() {
+        if starts_key(db, query, choices, prefixed, index) {
             count += 1;
         }
-        numbers[led[index].item] = count - 1;
+        numbers[prefixed[index].item] = count - 1;
     }
     Ok(KeyNumbers { numbers, count })
 }
@@ -150,7 +161,7 @@ pub fn number_keys(
     requires rows { length choices.now ≤ row_limit }
     ensures numbers { IfOk result (λ n. AreNumbersOf (query_of query.now) (choices_of (tables_of db.now) (query_of query.now) choices.now) n.numbers.items n.count) }
 {
-    let mut led = led_places(alloc, db, query, choices)?;
-    sort_led_places(db, query, choices, &mut led);
-    number_sorted(alloc, db, query, choices, &led)
+    let mut prefixed = prefixed_places(alloc, db, query, choices)?;
+    sort_prefixed_places(db, query, choices, &mut prefixed);
+    number_sorted(alloc, db, query, choices, &prefixed)
 }

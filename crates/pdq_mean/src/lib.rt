@@ -8,7 +8,7 @@ mod evaluation;
 mod group_columns;
 mod groups;
 mod key_numbers;
-mod leads;
+mod key_prefixes;
 mod rows;
 mod tallies;
 

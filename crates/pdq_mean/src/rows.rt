@@ -2,11 +2,11 @@
 ghost use Rattle.std.specs.Prelude.{◌≡◌, All, IfOk, List, OnOk, map};
 ghost use Rattle.std.specs.List.Sorted.{IsPermutation, IsSorted};
 ghost use Rattle.pdq_query.specs.Answer.{answer_cmp, key_cmp};
-ghost use Rattle.pdq_mean.specs.Leads.{IsLedRow, first_cmp, first_key, led_row_cmp};
+ghost use Rattle.pdq_mean.specs.KeyPrefixes.{IsPrefixedRow, first_cmp, first_key, prefixed_row_cmp};
 ghost use Rattle.pdq_mean.specs.Rows.{vector_cmp};
 
 use crate::cell_ref::{cell_at, compare_refs};
-use crate::leads::{Lead, Led, compare_leads, items, lead_of};
+use crate::key_prefixes::{KeyPrefix, Prefixed, compare_prefixes, items, prefix_of};
 use pdq_base::Memory;
 use pdq_query::Key;
 use pdq_value::{Cell, compare_rows};
@@ -53,61 +53,61 @@ fn first_key(keys: &[Key]) -> Key
     }
 }
 
-fn led_row(keys: &[Key], row: Vec<Cell>) -> Led<Vec<Cell>>
+fn prefixed_row(keys: &[Key], row: Vec<Cell>) -> Prefixed<Vec<Cell>>
     ensures item { result.item ≡ row }
-    ensures lead { IsLedRow keys.now result }
+    ensures prefix { IsPrefixedRow keys.now result }
 {
-    let lead = lead_of(cell_at(&row, first_key(keys).item as usize));
-    Led { lead, item: row }
+    let prefix = prefix_of(cell_at(&row, first_key(keys).item as usize));
+    Prefixed { prefix, item: row }
 }
 
-/// The rows, each with the lead of its cell at the first key.
-fn led_rows(
+/// The rows, each with the prefix of its cell at the first key.
+fn prefixed_rows(
     alloc: Global,
     keys: &[Key],
     rows: Vec<Vec<Cell>>,
-) -> Result<Vec<Led<Vec<Cell>>>, Memory>
-    ensures items { IfOk result (λ led. map (λ l. l.item) led.items ≡ rows.items) }
-    ensures leads { IfOk result (λ led. All (IsLedRow keys.now) led.items) }
+) -> Result<Vec<Prefixed<Vec<Cell>>>, Memory>
+    ensures items { IfOk result (λ prefixed. map (λ l. l.item) prefixed.items ≡ rows.items) }
+    ensures prefixes { IfOk result (λ prefixed. All (IsPrefixedRow keys.now) prefixed.items) }
 {
-    let Ok(mut led) = Vec::with_capacity(alloc, rows.len()) else {
+    let Ok(mut prefixed) = Vec::with_capacity(alloc, rows.len()) else {
         return Err(Memory);
     };
     for row in rows {
-        if led.push(led_row(keys, row)).is_err() {
+        if prefixed.push(prefixed_row(keys, row)).is_err() {
             return Err(Memory);
         }
     }
-    Ok(led)
+    Ok(prefixed)
 }
 
-/// By leads, the greater first where the first key is descending.
-fn compare_first(keys: &[Key], a: &Lead, b: &Lead) -> Ordering
+/// By prefixes, the greater first where the first key is descending.
+fn compare_first(keys: &[Key], a: &KeyPrefix, b: &KeyPrefix) -> Ordering
     ensures order { result ≡ first_cmp keys.now a.now b.now }
 {
     if first_key(keys).down {
-        compare_leads(b, a)
+        compare_prefixes(b, a)
     } else {
-        compare_leads(a, b)
+        compare_prefixes(a, b)
     }
 }
 
-#[tactic(auto, unfolding(crate::specs::Leads::led_row_cmp, crate::specs::Rows::vector_cmp))]
-fn compare_led_rows(keys: &[Key], a: &Led<Vec<Cell>>, b: &Led<Vec<Cell>>) -> Ordering
-    ensures order { result ≡ led_row_cmp keys.now a.now b.now }
+#[tactic(auto, unfolding(crate::specs::KeyPrefixes::prefixed_row_cmp, crate::specs::Rows::vector_cmp))]
+fn compare_prefixed_rows(keys: &[Key], a: &Prefixed<Vec<Cell>>, b: &Prefixed<Vec<Cell>>) -> Ordering
+    ensures order { result ≡ prefixed_row_cmp keys.now a.now b.now }
 {
-    let order = compare_first(keys, &a.lead, &b.lead);
+    let order = compare_first(keys, &a.prefix, &b.prefix);
     if order.is_ne() {
         return order;
     }
     compare_answers(keys, &a.item, &b.item)
 }
 
-fn sort_led_rows(keys: &[Key], rows: &mut Vec<Led<Vec<Cell>>>)
+fn sort_prefixed_rows(keys: &[Key], rows: &mut Vec<Prefixed<Vec<Cell>>>)
     ensures permutation { IsPermutation rows.old.items rows.new.items }
-    ensures sorted { IsSorted (led_row_cmp keys.now) rows.new.items }
+    ensures sorted { IsSorted (prefixed_row_cmp keys.now) rows.new.items }
 {
-    rows.sort_unstable_by(|a, b| compare_led_rows(keys, a, b));
+    rows.sort_unstable_by(|a, b| compare_prefixed_rows(keys, a, b));
 }
 
 /// The rows by the order keys, and then by the whole row.
@@ -119,8 +119,8 @@ pub fn sort_rows(alloc: Global, keys: &[Key], rows: &mut Vec<Vec<Cell>>) -> Resu
     ensures sorted { OnOk result (IsSorted (vector_cmp keys.now) rows.new.items) }
 {
     let unsorted = replace(rows, Vec::new(alloc));
-    let mut led = led_rows(alloc, keys, unsorted)?;
-    sort_led_rows(keys, &mut led);
-    *rows = items(alloc, led)?;
+    let mut prefixed = prefixed_rows(alloc, keys, unsorted)?;
+    sort_prefixed_rows(keys, &mut prefixed);
+    *rows = items(alloc, prefixed)?;
     Ok(())
 }

@@ -1,28 +1,58 @@
 //! Tallies: what the items of a query say of the choices that were taken in.
-ghost use Rattle.std.specs.Prelude.{◌≡◌, All, if◌then◌else◌, ℕ, ◌*◌, ◌^◌, ◌≤◌, [], ◌∷◌, IfOk, map, max, nat_abs, ◌+ℤ◌};
+ghost use Rattle.std.specs.Prelude.{◌≡◌, All, if◌then◌else◌, ℕ, ◌+◌, ◌*◌, ◌^◌, ◌≤◌, [], ◌∷◌, IfOk, map, max, nat_abs, ◌+ℤ◌};
 ghost use Rattle.std.specs.Ordering.{is_lt};
 ghost use Rattle.pdq_value.specs.Cells.{cell_cmp, number_of, scale_of};
 ghost use Rattle.pdq_value.specs.Tables.{IsDatabase, tables_of};
 ghost use Rattle.pdq_query.specs.Queries.{QueryView, query_of};
-ghost use Rattle.pdq_query.specs.Conditions.{cell_in};
+ghost use Rattle.pdq_query.specs.Conditions.{cell_in, is_something};
 ghost use Rattle.pdq_query.specs.Folds.{item_of_group};
 ghost use Rattle.pdq_query.specs.Answer.{row_limit};
 ghost use Rattle.pdq_mean.specs.CellRefs.{cell_of_ref};
 ghost use Rattle.pdq_mean.specs.Loops.{chosen};
-ghost use Rattle.pdq_mean.specs.Tallies.{AreTalliesOf, IsTallyOf, IsTotalWithin, IsWithin, AllTakeIn, TakesIn, cell_of_tally, item_of_tally};
+ghost use Rattle.pdq_mean.specs.Tallies.{AreTalliesOf, IsTallyOf, IsTotalWithin, IsWithin, AllTakeIn, TakesIn, average_of_total, cell_of_tally, item_of_tally, lesser_cell, sum_cell};
 
 use crate::cell_ref::{CellRef, compare_refs, owned};
-use crate::conditions::cell_in;
+use crate::conditions::{cell_in, is_something};
 use pdq_base::Memory;
 use pdq_query::{At, Item, Query};
 use pdq_value::{Cell, Db, average};
 use std::alloc::Global;
 
-/// The sum of a column and the greatest scale of its cells.
+/// The sum of the values of a column that are there, the greatest of their scales, and how many they are.
 #[derive(Clone, Copy)]
 pub struct Total {
     unscaled: i128,
     scale: u32,
+    rows: u32,
+}
+
+impl Total {
+    /// The sum; nothing over no value.
+    fn sum(self) -> Cell
+        ensures value { result ≡ sum_cell self }
+    {
+        if self.rows == 0 {
+            return Cell::Nothing;
+        }
+        Cell::Number {
+            unscaled: self.unscaled,
+            scale: self.scale,
+        }
+    }
+
+    /// The average; nothing over no value.
+    fn average(self) -> Cell
+        requires within { IsTotalWithin row_limit self }
+        ensures value { result ≡ average_of_total self }
+    {
+        if self.rows == 0 {
+            return Cell::Nothing;
+        }
+        Cell::Number {
+            unscaled: average(self.unscaled, u64::from(self.rows)),
+            scale: self.scale + 2,
+        }
+    }
 }
 
 /// What an item says of the choices that were taken in.
@@ -38,18 +68,29 @@ pub enum Tally<'a> {
     Count,
 }
 
-/// The number in a column and its scale; zeros where there is no number.
+/// The number in a column, as the total of one value; where the value is missing, the total of none.
 fn number_in(db: &Db, query: &Query, choice: &[usize], at: At) -> Total
     requires { IsDatabase (tables_of db.now) }
     ensures number { result.unscaled ≡ number_of (cell_in (chosen (tables_of db.now) (query_of query.now) choice.now) at) }
     ensures scale { result.scale ≡ scale_of (cell_in (chosen (tables_of db.now) (query_of query.now) choice.now) at) }
+    ensures rows { result.rows ≡ (if is_something (cell_in (chosen (tables_of db.now) (query_of query.now) choice.now) at) then 1 else 0) }
     ensures within { IsTotalWithin 1 result }
 {
     match cell_in(db, query, choice, at) {
-        CellRef::Number { unscaled, scale } => Total { unscaled, scale },
-        CellRef::Nothing | CellRef::Words(_) => Total {
+        CellRef::Number { unscaled, scale } => Total {
+            unscaled,
+            scale,
+            rows: 1,
+        },
+        CellRef::Nothing => Total {
             unscaled: 0,
             scale: 0,
+            rows: 0,
+        },
+        CellRef::Words(_) => Total {
+            unscaled: 0,
+            scale: 0,
+            rows: 1,
         },
     }
 }
@@ -59,21 +100,27 @@ fn sum(a: Total, b: Total) -> Total
     requires b { IsTotalWithin 1 b }
     ensures unscaled { result.unscaled ≡ a.unscaled +ℤ b.unscaled }
     ensures scale { result.scale ≡ max a.scale b.scale }
+    ensures rows { result.rows ≡ a.rows + b.rows }
 {
     Total {
         unscaled: a.unscaled + b.unscaled,
         scale: a.scale.max(b.scale),
+        rows: a.rows + b.rows,
     }
 }
 
-/// The first of two cells in order.
+/// The lesser of two cells that are there; where one is missing, the other.
 fn lesser<'a>(a: CellRef<'a>, b: CellRef<'a>) -> CellRef<'a>
-    ensures value { cell_of_ref result ≡ (if is_lt (cell_cmp (cell_of_ref a.entry) (cell_of_ref b.entry)) then cell_of_ref a.entry else cell_of_ref b.entry) }
+    ensures value { cell_of_ref result ≡ lesser_cell (cell_of_ref a.entry) (cell_of_ref b.entry) }
 {
-    if compare_refs(a, b).is_lt() { a } else { b }
+    if !is_something(b) || (is_something(a) && compare_refs(a, b).is_lt()) {
+        a
+    } else {
+        b
+    }
 }
 
-/// The last of two cells in order.
+/// The last of two cells in order, which is the one that is there where the other is missing.
 fn greater<'a>(a: CellRef<'a>, b: CellRef<'a>) -> CellRef<'a>
     ensures value { cell_of_ref result ≡ (if is_lt (cell_cmp (cell_of_ref a.entry) (cell_of_ref b.entry)) then cell_of_ref b.entry else cell_of_ref a.entry) }
 {
@@ -130,14 +177,8 @@ impl<'a> Tally<'a> {
             Tally::First(_, cell) | Tally::Least(_, cell) | Tally::Greatest(_, cell) => {
                 owned(alloc, cell)
             }
-            Tally::Sum(_, total) => Ok(Cell::Number {
-                unscaled: total.unscaled,
-                scale: total.scale,
-            }),
-            Tally::Average(_, total) => Ok(Cell::Number {
-                unscaled: average(total.unscaled, rows as u64),
-                scale: total.scale + 2,
-            }),
+            Tally::Sum(_, total) => Ok(total.sum()),
+            Tally::Average(_, total) => Ok(total.average()),
             Tally::Count => Ok(Cell::Number {
                 unscaled: rows as i128,
                 scale: 0,

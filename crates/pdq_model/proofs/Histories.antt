@@ -71,7 +71,7 @@ settled_next s who event here may =
 pub settled_replay : (c : Configuration) (history : List Entry) → IsValid c → IsLegal c history → IsSettled (replay c history)
 settled_replay c history valid legal = (after_history IsSoundSettled settled_next (opening_state c) history (opening_settled c valid) legal).settled
 
-rest_from_settled : (s : State) → IsSettled s → IsAtRest s
+pub rest_from_settled : (s : State) → IsSettled s → IsAtRest s
 rest_from_settled s settled = record {
   head = λ place w head there passes. none-some (admit s place w) (sym settled.heads ∙ head_admits s place w head there passes);
   waiting = λ none. settled.idle (ap length none);

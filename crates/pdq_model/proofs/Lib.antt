@@ -10,5 +10,6 @@ pub mod Staying
 pub mod Open
 pub mod Given
 pub mod Marks
+pub mod Shares
 pub mod WrittenOrder
 pub mod Examples

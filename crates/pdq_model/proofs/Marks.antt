@@ -58,7 +58,7 @@ record Marked (s : State) (done : List Entry) : Type 0 where
   marks : Marks done s.active s.withdrawn
 
 -- one row is changed, or none
-all_changed : {X : Type 0} (P : X → Type 0) (g : X → X) (p : X → Bool) (xs : List X) (o : Option ℕ) → position p xs ≡ o → All P xs → ((x : X) → p x ≡ true → P x → P (g x)) → All P (changed_at g xs o)
+pub all_changed : {X : Type 0} (P : X → Type 0) (g : X → X) (p : X → Bool) (xs : List X) (o : Option ℕ) → position p xs ≡ o → All P xs → ((x : X) → p x ≡ true → P x → P (g x)) → All P (changed_at g xs o)
 all_changed P g p xs None found each more = each
 all_changed {X} P g p xs (Some k) found each more = go (slice_get xs k) refl
   where
@@ -66,7 +66,7 @@ all_changed {X} P g p xs (Some k) found each more = go (slice_get xs k) refl
     go None there = each
     go (Some x) there = All-set P xs k (g x) (more x (place_passes p xs k x found there) (subst P (get_or_from_slice_get xs k x x there) (each k x (slice_get_within xs k x there)))) each
 
-all_without : {X : Type 0} (P : X → Type 0) (xs : List X) (o : Option ℕ) → All P xs → All P (without xs o)
+pub all_without : {X : Type 0} (P : X → Type 0) (xs : List X) (o : Option ℕ) → All P xs → All P (without xs o)
 all_without P xs None each = each
 all_without P xs (Some k) each = All_remove P xs k each
 

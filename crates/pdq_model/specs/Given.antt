@@ -1,12 +1,13 @@
 -- What a legal history gives: numbers, and the marks that cancellations leave.
-use Rattle.std.specs.Prelude.{ℕ, ◌≡◌, ◌+◌, ◌-◌, ◌≤◌, List, [], ◌∷◌, ◌++◌, true, Some, ⊤, length, slice_get}
+use Rattle.std.specs.Prelude.{ℕ, ◌≡◌, ◌+◌, ◌-◌, ◌≤◌, List, [], ◌∷◌, ◌++◌, true, Some, ⊤, All, length, slice_get}
+use Rattle.pdq_model.specs.declared.rows.Waiting.{Waiting}
 use Rattle.pdq_model.specs.declared.rows.Active.{Active}
 use Rattle.pdq_model.specs.declared.rows.Withdrawn.{Withdrawn}
 use Rattle.pdq_model.specs.declared.events.Event.TheVariants.{Cancel}
 use Rattle.pdq_model.specs.declared.events.Reply.{Reply}
 use Rattle.pdq_model.specs.declared.events.Reply.TheVariants as reply
 use Rattle.pdq_model.specs.declared.events.Entry.{Entry}
-use Rattle.pdq_model.specs.Configuration.{Configuration}
+use Rattle.pdq_model.specs.Configuration.{Configuration, frames_per_quantum}
 use Rattle.pdq_model.specs.State.{State}
 use Rattle.pdq_model.specs.Step.{is_open}
 use Rattle.pdq_model.specs.History.{IsLegal, has_query, replay}
@@ -63,3 +64,21 @@ pub record MarksCancellations (s : State) (history : List Entry) : Type 0 where
 
 abbrev pub MarksAreCancellations : Type 0
 MarksAreCancellations = (c : Configuration) (history : List Entry) → IsLegal c history → MarksCancellations (replay c history) history
+
+-- a waiting query has 1 to 16 fragments
+abbrev pub HasFrags : Waiting → Type 0
+HasFrags w = (1 ≤ w.frags) × (w.frags ≤ 16)
+
+-- an active query has a quantum at least, and 1 to 16 scan threads
+pub record HasShares (a : Active) : Type 0 where
+  pub quanta : 1 ≤ a.quanta
+  pub some_scan : 1 ≤ a.scans
+  pub scans : a.scans ≤ 16
+
+-- what running a query takes: each active query has its shares, and a quantum has 32 frames at least
+pub record HasWorkingShares (s : State) : Type 0 where
+  pub shares : All HasShares s.active
+  pub frames : 32 ≤ frames_per_quantum s.config
+
+abbrev pub SharesSuffice : Type 0
+SharesSuffice = HoldsAlways HasWorkingShares

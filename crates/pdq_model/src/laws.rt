@@ -1,6 +1,6 @@
 //! The laws of the manager, over every legal history from a valid configuration. Each stands on a function with nothing to do.
 
-ghost use Rattle.pdq_model.specs.Given.{NumbersAreGivenOnce, OwnersAreOpen, MarksAreCancellations};
+ghost use Rattle.pdq_model.specs.Given.{NumbersAreGivenOnce, OwnersAreOpen, MarksAreCancellations, SharesSuffice};
 ghost use Rattle.pdq_model.specs.Kept.{TicketsStay, LoansStay, OnlySubmitsAdd, SessionsStay};
 ghost use Rattle.pdq_model.specs.Laws.{LimitsAreKept, EntriesSettle, OnlyHeadsAreAdmitted, OvertakingIsBounded, JournalHasRoom, NumbersAreUnique, HeadsAreFirst, OrderIsWritten, OnlyOwnersTake, AdmittedGoFirst};
 
@@ -104,4 +104,10 @@ pub fn owners_are_open()
 #[tactic(auto, using(crate::proofs::Marks::marks_are_cancellations))]
 pub fn marks_are_cancellations()
     ensures law { MarksAreCancellations }
+{}
+
+/// An active query has a quantum at least, each of 32 frames or more, and 1 to 16 scan threads.
+#[tactic(auto, using(crate::proofs::Shares::shares_suffice))]
+pub fn shares_suffice()
+    ensures law { SharesSuffice }
 {}

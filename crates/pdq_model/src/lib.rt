@@ -15,6 +15,6 @@ pub use laws::{
     admits_heads_only, admitted_go_first, bounds_overtaking, conserves, gives_numbers_once,
     has_one_head, journal_has_room, loans_stay, marks_are_cancellations, numbers_are_unique,
     only_owners_take, only_submits_add, orders_the_waiting, owners_are_open, sessions_stay,
-    settles, tickets_stay,
+    settles, shares_suffice, tickets_stay,
 };
 pub use rows::{Active, ActiveRow, Admit, Pending, Session, Waiting, WaitingRow, Withdrawn};

@@ -10,11 +10,12 @@ use Rattle.pdq_value.specs.declared.cells.Cell.TheVariants.{Number, Nothing}
 use Rattle.pdq_value.specs.Cells.{cell_at, number_of, scale_of}
 use Rattle.pdq_value.specs.Averages.{average_of}
 use Rattle.pdq_value.proofs.Orders.{cell_cmp-IsLinearOrder, row_cmp-IsLinearOrder}
+use Rattle.pdq_query.specs.declared.query.At.{At}
 use Rattle.pdq_query.specs.declared.query.Item.{Item}
 use Rattle.pdq_query.specs.declared.query.Item.TheVariants.{Plain, Sum, Avg, Min, Max, Count}
 use Rattle.pdq_query.specs.Queries.{QueryView}
-use Rattle.pdq_query.specs.Conditions.{Choice, cell_in}
-use Rattle.pdq_query.specs.Folds.{average_cell, group_rows, is_fold, is_grouped, is_row, item_of_group, key_of, keys_of, scale_in, sum_of, total_of}
+use Rattle.pdq_query.specs.Conditions.{Choice, cell_in, is_something}
+use Rattle.pdq_query.specs.Folds.{average_cell, group_rows, is_fold, is_grouped, is_row, item_of_group, key_of, keys_of, scale_in, sum_of, total_of, values_in}
 use Rattle.pdq_query.specs.Answer.{answer_of, projected, row_limit, rows_of}
 use Rattle.pdq_query.proofs.Orders.{answer_cmp-IsLinearOrder}
 
@@ -57,14 +58,17 @@ sum_of-IsPermutation vs ws s = sum_of-made vs ∙ made_of-IsPermutation (λ z s 
 average_cell-IsPermutation : (vs ws : List Cell) → IsPermutation vs ws → average_cell vs ≡ average_cell ws
 average_cell-IsPermutation vs ws s = average_cell-made vs ∙ made_of-IsPermutation (λ z s n. Number (average_of z n) (s + 2)) vs ws s ∙ sym (average_cell-made ws)
 
+values_in-IsPermutation : (a : At) (cs ds : List Choice) → IsPermutation cs ds → IsPermutation (values_in a cs) (values_in a ds)
+values_in-IsPermutation a cs ds s = filter-IsPermutation is_something _ _ (IsPermutation-map (λ c. cell_in c a) cs ds s)
+
 item_of_group-alike : (q : QueryView) (key : List Cell) (i : Item) (cs ds : List Choice) → IsPermutation cs ds → item_of_group q key cs i ≡ item_of_group q key ds i
 unfolding item_of_group
 item_of_group-alike q key (Plain a) cs ds s = refl
-item_of_group-alike q key (Sum a) cs ds s = sum_of-IsPermutation _ _ (IsPermutation-map (λ c. cell_in c a) cs ds s)
-item_of_group-alike q key (Avg a) cs ds s = average_cell-IsPermutation _ _ (IsPermutation-map (λ c. cell_in c a) cs ds s)
-item_of_group-alike q key (Min a) cs ds s = ap (cell_at 0) (in_order-alike cell_cmp-IsLinearOrder _ _ (IsPermutation-map (λ c. cell_in c a) cs ds s))
+item_of_group-alike q key (Sum a) cs ds s = sum_of-IsPermutation _ _ (values_in-IsPermutation a cs ds s)
+item_of_group-alike q key (Avg a) cs ds s = average_cell-IsPermutation _ _ (values_in-IsPermutation a cs ds s)
+item_of_group-alike q key (Min a) cs ds s = ap (cell_at 0) (in_order-alike cell_cmp-IsLinearOrder _ _ (values_in-IsPermutation a cs ds s))
 item_of_group-alike q key (Max a) cs ds s =
-    let m = IsPermutation-map (λ c. cell_in c a) cs ds s in
+    let m = values_in-IsPermutation a cs ds s in
     ap₂ (λ n l. cell_at (n - 1) l) (sym (length_permutation _ _ m)) (in_order-alike cell_cmp-IsLinearOrder _ _ m)
 item_of_group-alike q key Count cs ds s = ap (λ n. Number (pos n) 0) (sym (length_permutation _ _ s))
 

@@ -127,3 +127,58 @@ distinct = record {
 each_once : answer (sales ∷ []) distinct ≡ Some ((cell.Number (pos 1) 0 ∷ []) ∷ (cell.Number (pos 2) 0 ∷ []) ∷ [])
 unfolding answer_of choices meets rows_of group_rows keys_of item_of_group in_order cell_cmp keys_cmp average_of sales distinct at column
 each_once = refl
+
+-- a name and an amount with one decimal place, either of which may be missing
+notes : TableView
+notes = record {
+  shape = record { name = []; columns = column kind.Words ∷ column (kind.Number 1) ∷ [] };
+  rows = (value.Words (120 ∷ []) ∷ value.Number (pos 10) ∷ []) ∷ (value.Words (120 ∷ []) ∷ value.Null ∷ []) ∷ (value.Null ∷ value.Number (pos 20) ∷ []) ∷ (value.Null ∷ value.Null ∷ []) ∷ [];
+}
+
+-- those without a name are one group, and only the amounts that are there are folded
+by_name : QueryView
+by_name = record {
+  tables = 0 ∷ [];
+  filters = [];
+  joins = [];
+  items = Plain (at 0 0) ∷ Sum (at 0 1) ∷ Avg (at 0 1) ∷ Min (at 0 1) ∷ Max (at 0 1) ∷ Count ∷ [];
+  groups = at 0 0 ∷ [];
+  keys = [];
+}
+
+each_name : answer (notes ∷ []) by_name ≡ Some (
+    (cell.Nothing ∷ cell.Number (pos 20) 1 ∷ cell.Number (pos 2000) 3 ∷ cell.Number (pos 20) 1 ∷ cell.Number (pos 20) 1 ∷ cell.Number (pos 2) 0 ∷ [])
+    ∷ (cell.Words (120 ∷ []) ∷ cell.Number (pos 10) 1 ∷ cell.Number (pos 1000) 3 ∷ cell.Number (pos 10) 1 ∷ cell.Number (pos 10) 1 ∷ cell.Number (pos 2) 0 ∷ [])
+    ∷ [])
+unfolding answer_of choices meets rows_of group_rows keys_of item_of_group in_order cell_cmp keys_cmp average_of notes by_name at column
+each_name = refl
+
+-- no amount that is missing differs from another
+other_amounts : QueryView
+other_amounts = record by_name { filters = Literal (at 0 1) Ne (value.Number (pos 10)) ∷ []; items = Plain (at 0 0) ∷ []; groups = [] }
+
+one_amount : answer (notes ∷ []) other_amounts ≡ Some ((cell.Nothing ∷ []) ∷ [])
+unfolding answer_of choices meets rows_of group_rows keys_of item_of_group in_order cell_cmp keys_cmp average_of notes by_name other_amounts at column
+one_amount = refl
+
+-- over values that are all missing every fold but COUNT is nothing
+no_amount : QueryView
+no_amount = record by_name { tables = 1 ∷ []; groups = []; items = Sum (at 0 0) ∷ Avg (at 0 0) ∷ Min (at 0 0) ∷ Max (at 0 0) ∷ Count ∷ [] }
+
+holes : TableView
+holes = record {
+  shape = record { name = []; columns = column (kind.Number 0) ∷ [] };
+  rows = (value.Null ∷ []) ∷ (value.Null ∷ []) ∷ [];
+}
+
+all_missing : answer (notes ∷ holes ∷ []) no_amount ≡ Some ((cell.Nothing ∷ cell.Nothing ∷ cell.Nothing ∷ cell.Nothing ∷ cell.Number (pos 2) 0 ∷ []) ∷ [])
+unfolding answer_of choices meets rows_of group_rows keys_of item_of_group in_order cell_cmp keys_cmp average_of notes by_name no_amount holes at column
+all_missing = refl
+
+-- nothing is not joined with nothing
+joined_holes : QueryView
+joined_holes = record by_name { tables = 0 ∷ 1 ∷ []; joins = (at 0 0, at 1 0) ∷ []; groups = []; items = Plain (at 0 0) ∷ [] }
+
+none_joined : answer (holes ∷ holes ∷ []) joined_holes ≡ Some []
+unfolding answer_of choices meets rows_of group_rows keys_of item_of_group in_order cell_cmp keys_cmp average_of notes by_name joined_holes holes at column
+none_joined = refl

@@ -11,7 +11,7 @@ use Rattle.pdq_query.specs.declared.query.At.{At}
 use Rattle.pdq_query.specs.declared.query.Item.{Item}
 use Rattle.pdq_query.specs.declared.query.Item.TheVariants.{Plain, Sum, Avg, Min, Max, Count}
 use Rattle.pdq_query.specs.Queries.{QueryView}
-use Rattle.pdq_query.specs.Conditions.{Choice, cell_in}
+use Rattle.pdq_query.specs.Conditions.{Choice, cell_in, is_something}
 
 abbrev pub total_of : List Cell → ℤ
 total_of [] = pos 0
@@ -21,6 +21,10 @@ total_of (c ∷ cs) = number_of c +ℤ total_of cs
 abbrev pub scale_in : List Cell → ℕ
 scale_in [] = 0
 scale_in (c ∷ cs) = max (scale_of c) (scale_in cs)
+
+-- the cells of a column that hold a value, which are those that are folded
+abbrev pub values_in : At → List Choice → List Cell
+values_in a cs = filter is_something (map (λ c. cell_in c a) cs)
 
 -- the sum, in the column's scale; of no cell it is nothing
 abbrev pub sum_of : List Cell → Cell
@@ -60,13 +64,13 @@ key_of q c = map (cell_in c) q.groups
 abbrev pub is_row : List Cell → List Cell → Bool
 is_row a b = is_eq (row_cmp a b)
 
--- what an item says of the choices of one key
+-- what an item says of the choices of one key: COUNT of all of them, the other folds of the values that are there
 unfoldable pub item_of_group : QueryView → List Cell → List Choice → Item → Cell
 item_of_group q key cs (Plain a) = cell_at (unwrap_or (position (is_column a) q.groups) 0) key
-item_of_group q key cs (Sum a) = sum_of (map (λ c. cell_in c a) cs)
-item_of_group q key cs (Avg a) = average_cell (map (λ c. cell_in c a) cs)
-item_of_group q key cs (Min a) = least_of (map (λ c. cell_in c a) cs)
-item_of_group q key cs (Max a) = greatest_of (map (λ c. cell_in c a) cs)
+item_of_group q key cs (Sum a) = sum_of (values_in a cs)
+item_of_group q key cs (Avg a) = average_cell (values_in a cs)
+item_of_group q key cs (Min a) = least_of (values_in a cs)
+item_of_group q key cs (Max a) = greatest_of (values_in a cs)
 item_of_group q key cs Count = Number (pos (length cs)) 0
 
 -- each key once; without group columns there is exactly one, also over no choice

@@ -6,6 +6,6 @@ mod query;
 
 pub use laws::{
     answers_forget_order, answers_sort_one_way, filters_may_come_first, plans_answer,
-    tables_have_any_order, tests_may_come_early,
+    plans_gather_the_choices, tables_have_any_order, tests_may_come_early,
 };
-pub use query::{At, Compare, Filter, Item, Key, Query};
+pub use query::{At, Compare, Filter, Item, Key, Query, is_fold};

@@ -1,5 +1,5 @@
 -- Rows stand in fragments.
-use Rattle.std.proofs.Common.{ℕ, zero, suc, ◌≡◌, ◌<◌, ◌≤◌, ◌∙◌, Bool, true, false, cond, List, [], ◌∷◌, length, get_or, refl, ap, subst, arith, Some, None, inl, inr, ◌⊎◌}
+use Rattle.std.proofs.Common.{ℕ, zero, suc, ◌≡◌, ◌<◌, ◌≤◌, ◌∙◌, Bool, true, false, cond, List, [], ◌∷◌, length, get_or, refl, ap, ap₂, subst, not, ◌+◌, arith, Some, None, inl, inr, ◌⊎◌}
 use Rattle.std.specs.Prelude.{Contains, map, option_map, filter, slice_get, unwrap_or}
 use Rattle.std.specs.List.{enumerate_from}
 use Rattle.std.proofs.lemmas.Bool.Decides.{nat_tests}
@@ -9,10 +9,11 @@ use Rattle.std.specs.Prelude.{◌==◌, nat_lt}
 use Rattle.std.proofs.lemmas.List.Elements.{All-contains, Contains-append_cases, Contains-append_left, Contains-append_right, filter_passes}
 use Rattle.pdq_value.specs.declared.shapes.Column.{Column}
 use Rattle.pdq_value.specs.declared.shapes.Value.{Value}
+use Rattle.pdq_value.specs.declared.shapes.Value.TheVariants.{Null}
 use Rattle.pdq_value.specs.Tables.{ShapeView}
 use Rattle.pdq_schema.specs.declared.cuts.Cut.{Cut}
 use Rattle.pdq_schema.specs.declared.cuts.Range.{Range}
-use Rattle.pdq_schema.specs.Fragments.{RowsStandInOneFragment, fragment_count, fragment_number, holds_value, range_number, stands_in, value_at}
+use Rattle.pdq_schema.specs.Fragments.{NullsStandInTheRemainder, RowsStandInOneFragment, fragment_count, fragment_number, holds_value, range_number, stands_in, value_at}
 use Rattle.pdq_schema.specs.Schemas.{AreCutsOf, CutView, IsCutOf, cut_of, rounds, ranges}
 
 number_or_end : (n m : ℕ) → unwrap_or (cond (nat_lt n m) (Some n) None) m ≤ m
@@ -74,3 +75,20 @@ one_fragment columns cut is_cut rows place row there = record {
   stands = passes (stands_in cut (fragment_number cut place row)) (enumerate_from 0 rows) (place, row) (same_number (fragment_number cut place row)) there;
   only = λ other stands. numbers_tie _ other (All-contains (λ (q : ℕ × List Value). stands_in cut other q ≡ true) _ _ (filter_passes (stands_in cut other) (enumerate_from 0 rows)) stands);
 }
+
+none_first : {X : Type 0} (p : X → Bool) → ((x : X) → p x ≡ false) → (xs : List X) → position_or_len p xs ≡ length xs
+none_first p fails [] = refl
+none_first p fails (x ∷ xs) = ap₂ (λ (b : Bool) (n : ℕ). cond (not b) (1 + n) 0) (fails x) (none_first p fails xs) ∙ omega arith
+
+same_either : (b : Bool) (n : ℕ) → unwrap_or (cond b (Some n) None) n ≡ n
+same_either true n = refl
+same_either false n = refl
+
+-- Null is in no range
+null_in_none : (rs : List Range) (v : Value) → v ≡ Null → range_number rs v ≡ length rs
+null_in_none rs v null =
+    ap (λ (n : ℕ). unwrap_or (cond (nat_lt n (length rs)) (Some n) None) (length rs)) (none_first (λ (r : Range). holds_value r v) (λ r. ap (holds_value r) null) rs)
+    ∙ same_either (nat_lt (length rs) (length rs)) (length rs)
+
+pub nulls_stand_in_the_remainder : NullsStandInTheRemainder
+nulls_stand_in_the_remainder column rs place row null = null_in_none rs (value_at column row) null

@@ -1,18 +1,23 @@
 -- Fragments: where the rows of a table stand.
-use Rattle.std.specs.Prelude.{ℕ, ◌+◌, ◌<◌, ◌≤◌, ◌≡◌, ◌%◌, List, Bool, true, not, ◌&&◌, ◌==◌, Option, Some, None, Contains, filter, length, map, pos, position, slice_index_or, unwrap_or}
+use Rattle.std.specs.Prelude.{ℕ, ◌+◌, ◌<◌, ◌≤◌, ◌≡◌, ◌%◌, List, Bool, true, false, not, ◌&&◌, ◌==◌, Option, Some, None, Contains, filter, length, map, pos, position, slice_index_or, unwrap_or}
 use Rattle.std.specs.List.{enumerate_from}
 use Rattle.std.specs.Ordering.{int_cmp, is_lt, nat_cmp}
 use Rattle.std.specs.Cmp.Lexicographic.{slice_cmp}
 use Rattle.std.specs.declared.cmp.Ordering.{Ordering}
-use Rattle.std.specs.declared.cmp.Ordering.TheVariants.{Less, Greater}
+use Rattle.std.specs.declared.cmp.Ordering.TheVariants.{Less, Equal, Greater}
 use Rattle.pdq_value.specs.declared.shapes.Column.{Column}
 use Rattle.pdq_value.specs.declared.shapes.Value.{Value}
-use Rattle.pdq_value.specs.declared.shapes.Value.TheVariants.{Number, Words}
+use Rattle.pdq_value.specs.declared.shapes.Value.TheVariants.{Null, Number, Words}
 use Rattle.pdq_schema.specs.declared.cuts.Range.{Range}
 use Rattle.pdq_schema.specs.Schemas.{CutView, rounds, ranges, IsCutOf}
 
--- numbers by value, texts by bytes
+-- Null first, then numbers by value, then texts by bytes
 abbrev pub value_cmp : Value → Value → Ordering
+value_cmp Null Null = Equal
+value_cmp Null (Number z) = Less
+value_cmp Null (Words t) = Less
+value_cmp (Number y) Null = Greater
+value_cmp (Words t) Null = Greater
 value_cmp (Number y) (Number z) = int_cmp y z
 value_cmp (Number y) (Words t) = Less
 value_cmp (Words t) (Number z) = Greater
@@ -28,8 +33,14 @@ abbrev pub is_below : Option Value → Value → Bool
 is_below None v = true
 is_below (Some b) v = is_lt (value_cmp v b)
 
+abbrev pub is_there : Value → Bool
+is_there Null = false
+is_there (Number z) = true
+is_there (Words t) = true
+
+-- a range holds no Null
 abbrev pub holds_value : Range → Value → Bool
-holds_value r v = is_from r.from v && is_below r.below v
+holds_value r v = is_there v && (is_from r.from v && is_below r.below v)
 
 -- the number of the first range that holds the value, from 0; behind the last where none does
 abbrev pub range_number : List Range → Value → ℕ
@@ -73,6 +84,10 @@ pub record HasOneFragment (cut : CutView) (rows : List (List Value)) (place : �
   pub within : fragment < fragment_count cut
   pub stands : StandsIn cut rows place row fragment
   pub only : (other : ℕ) → StandsIn cut rows place row other → other ≡ fragment
+
+-- a row without a value in the column of the ranges stands in the remainder, the last fragment
+abbrev pub NullsStandInTheRemainder : Type 0
+NullsStandInTheRemainder = (column : ℕ) (rs : List Range) (place : ℕ) (row : List Value) → value_at column row ≡ Null → fragment_number (ranges column rs) place row ≡ length rs
 
 -- each row stands in exactly one fragment
 abbrev pub RowsStandInOneFragment : Type 0

@@ -34,6 +34,8 @@ schema_with shapes files cuts = record { shapes = map shape_of shapes; files = m
 
 -- a number below 10^18 in magnitude for a column of numbers, a text for a column of texts
 abbrev pub IsBoundOf : Kind → Value → Type 0
+IsBoundOf (kind.Number s) value.Null = ⊥
+IsBoundOf kind.Words value.Null = ⊥
 IsBoundOf (kind.Number s) (value.Number z) = nat_abs z < 10 ^ 18
 IsBoundOf (kind.Number s) (value.Words t) = ⊥
 IsBoundOf kind.Words (value.Number z) = ⊥

@@ -1,13 +1,13 @@
 //! How the rows of a table are cut into fragments.
 ghost use Rattle.std.specs.Prelude.{◌≡◌, ◌<◌, ◌≤◌, IfSome, length, position};
-ghost use Rattle.pdq_schema.specs.Fragments.{CutsRow, RowsStandInOneFragment, fragment_count, fragment_number, holds_value, range_number, value_cmp};
+ghost use Rattle.pdq_schema.specs.Fragments.{CutsRow, NullsStandInTheRemainder, RowsStandInOneFragment, fragment_count, fragment_number, holds_value, is_there, range_number, value_cmp};
 ghost use Rattle.pdq_schema.specs.Schemas.{cut_of};
 ghost use Rattle.pdq_schema.specs.declared.cuts.Range.{Range as RangeValue};
 
 use pdq_value::Value;
 use std::cmp::Ordering;
 
-/// The values from `from` on that are less than `below`. A missing side holds always.
+/// The values from `from` on that are less than `below`. A missing side holds always; Null is in no range.
 #[derive(Debug, Drop)]
 pub struct Range {
     pub from: Option<Value>,
@@ -22,24 +22,38 @@ pub enum Cut {
     Ranges { column: u32, ranges: Vec<Range> },
 }
 
-/// The order of values: numbers by value, texts by bytes.
+/// The order of values: Null first, then numbers by value, then texts by bytes.
 fn compare(value: &Value, other: &Value) -> Ordering
     ensures value { result ≡ value_cmp value.now other.now }
 {
     match value {
+        Value::Null => match other {
+            Value::Null => Ordering::Equal,
+            _ => Ordering::Less,
+        },
         Value::Number(number) => match other {
+            Value::Null => Ordering::Greater,
             Value::Number(other) => number.cmp(other),
             Value::Words(_) => Ordering::Less,
         },
         Value::Words(text) => match other {
-            Value::Number(_) => Ordering::Greater,
             Value::Words(other) => text.bytes().cmp(&other.bytes()),
+            _ => Ordering::Greater,
         },
     }
 }
 
+fn is_there(value: &Value) -> bool
+    ensures value { result ≡ is_there value.now }
+{
+    match value {
+        Value::Null => false,
+        _ => true,
+    }
+}
+
 impl Range {
-    /// Whether it holds the value: numbers by value, texts by bytes.
+    /// Whether it holds the value: numbers by value, texts by bytes, and never Null.
     pub fn holds(&self, value: &Value) -> bool
         ensures value { result ≡ holds_value self.now value.now }
     {
@@ -51,7 +65,7 @@ impl Range {
             Some(below) => compare(value, below) == Ordering::Less,
             None => true,
         };
-        is_from && is_below
+        is_there(value) && is_from && is_below
     }
 }
 
@@ -100,6 +114,11 @@ impl Cut {
         }
     }
 }
+
+/// A row whose column of the ranges is Null stands in the remainder.
+pub fn nulls_stand_in_the_remainder()
+    ensures law { NullsStandInTheRemainder }
+{}
 
 /// Each row of a table stands in exactly one fragment.
 pub fn rows_stand_in_one_fragment()

@@ -43,7 +43,7 @@ fn read_bound(alloc: Global, kind: Kind, value: &toml::Value) -> Result<Option<V
     };
     match kind {
         Kind::Number { scale } => number_bound(text.as_bytes(), scale),
-        Kind::Words => Ok(Some(Value::Words(Text::from_bytes(alloc, text.as_bytes())?))),
+        Kind::Words => Ok(Some(Value::Words(Text::from_str(alloc, text)?))),
     }
 }
 

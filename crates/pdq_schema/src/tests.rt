@@ -316,7 +316,7 @@ fn fragments(alloc: Global, text: &str, rows: &[[Value; 1]]) -> Result<Vec<u32>,
 }
 
 fn words(alloc: Global, text: &str) -> Result<[Value; 1], Fail> {
-    let text = Text::from_bytes(alloc, text.as_bytes()).map_err(|_| "memory")?;
+    let text = Text::from_str(alloc, text).map_err(|_| "memory")?;
     Ok([Value::Words(text)])
 }
 

@@ -88,15 +88,16 @@ quote_of false (b ∷ bs) = if b == 39 then passed (quote_of true bs) else grown
 abbrev pub text_token : List ℕ → TokenKind × ℕ
 text_token bytes = let q = quote_of false bytes in if q.2 && is_utf8 q.0 then (Quoted q.0, q.1 + 1) else (Bad, q.1 + 1)
 
--- the option that a letter makes behind a minus: D, M, Q, S or g
+-- the option that a letter makes behind a minus: D, M, Q, S, N or g
 abbrev pub option_of : ℕ → Option TokenKind
 option_of b =
     if b == 68 then Some (Switch letter.D)
     else (if b == 77 then Some (Switch letter.M)
     else (if b == 81 then Some (Switch letter.Q)
     else (if b == 83 then Some (Switch letter.S)
+    else (if b == 78 then Some (Switch letter.N)
     else (if b == 103 then Some (Fixed mark.Statistics)
-    else None))))
+    else None)))))
 
 abbrev pub begins_word : List ℕ → Bool
 begins_word [] = false

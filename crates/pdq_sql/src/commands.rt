@@ -18,13 +18,15 @@ pub enum Level {
     Default,
 }
 
-/// What ONMODE sets: MAX_PDQPRIORITY (`-D`), DS_TOTAL_MEMORY (`-M`), DS_MAX_QUERIES (`-Q`) or DS_MAX_SCANS (`-S`), as in Informix.
+/// What ONMODE sets: MAX_PDQPRIORITY (`-D`), DS_TOTAL_MEMORY (`-M`), DS_MAX_QUERIES (`-Q`) or DS_MAX_SCANS (`-S`), as in Informix, or
+/// DS_NONPDQ_QUERY_MEM (`-N`, an option of our own).
 #[derive(Clone, Copy, Debug, PartialEq, Eq)]
 pub enum Letter {
     D,
     M,
     Q,
     S,
+    N,
 }
 
 /// A line. A number above 4,294,967,295 is carried as that.

@@ -177,6 +177,8 @@ fn option_of(letter: u8) -> Option<TokenKind>
         Some(TokenKind::Switch(Letter::Q))
     } else if letter == b'S' {
         Some(TokenKind::Switch(Letter::S))
+    } else if letter == b'N' {
+        Some(TokenKind::Switch(Letter::N))
     } else if letter == b'g' {
         Some(TokenKind::Fixed(Mark::Statistics))
     } else {

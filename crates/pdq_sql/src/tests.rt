@@ -149,7 +149,8 @@ fn lines_are_taken_or_refused_at_a_place(rt: HostRuntime) -> Result<(), Fail> {
         ("onmode -M 5", None, None),
         ("onmode -Q 5", None, None),
         ("onmode -S 5", None, None),
-        ("onmode -N 5", Some(7), Some(7)),
+        ("onmode -N 5", None, None),
+        ("onmode -n 5", Some(7), Some(7)),
         ("onmode -g 1", Some(7), Some(7)),
         ("onmode -d 5", Some(7), Some(7)),
         ("onmode -D5", Some(7), Some(7)),
@@ -197,6 +198,11 @@ fn lines_say(rt: HostRuntime) -> Result<(), Fail> {
             LineHome::Script,
             "onmode -Q 9999999999",
             "Onmode { letter: Q, value: 4294967295 }",
+        ),
+        (
+            LineHome::Script,
+            "onmode -N 128",
+            "Onmode { letter: N, value: 128 }",
         ),
         (
             LineHome::Script,

@@ -9,7 +9,7 @@ use Rattle.pdq_stat.specs.StatusText.{line, active_row, ready_row, word_row, num
 abbrev two_active_and_three_waiting : StatusView
 two_active_and_three_waiting = record {
   step = 6;
-  config = configuration 100 4000 10 10;
+  config = configuration 100 4000 10 10 128;
   pending = None;
   active =
       record { session = 1; id = 1; priority = 50; quanta = 5; scans = 4 }
@@ -27,6 +27,7 @@ pub two_active_and_three_waiting-shown : status_text two_active_and_three_waitin
     ∷ codes "DS_MAX_QUERIES: 10"
     ∷ codes "DS_MAX_SCANS: 10"
     ∷ codes "DS_TOTAL_MEMORY: 4000 KB"
+    ∷ codes "DS_NONPDQ_QUERY_MEM: 128 KB"
     ∷ codes "Unused: 0 KB"
     ∷ codes "Pending: none"
     ∷ codes "Queries:          Active       Ready     Maximum"

@@ -45,6 +45,7 @@ settings_text c =
     ++ number_line (codes "DS_MAX_QUERIES: ") c.max_queries
     ++ number_line (codes "DS_MAX_SCANS: ") c.max_scans
     ++ memory_line (codes "DS_TOTAL_MEMORY: ") c.total_kb
+    ++ memory_line (codes "DS_NONPDQ_QUERY_MEM: ") c.nonpdq_kb
     ++ memory_line (codes "Unused: ") (unused_kb c)
 
 -- what a change that waits asks for, in the order of its parts

@@ -47,6 +47,7 @@ fn add_settings(to: &mut Vec<u8>, config: &Config) -> Result<(), AllocError>
     add_number_line(to, "DS_MAX_QUERIES: ", u64::from(config.max_queries()))?;
     add_number_line(to, "DS_MAX_SCANS: ", u64::from(config.max_scans()))?;
     add_memory_line(to, "DS_TOTAL_MEMORY: ", u64::from(config.total_kb()))?;
+    add_memory_line(to, "DS_NONPDQ_QUERY_MEM: ", u64::from(config.nonpdq_kb()))?;
     add_memory_line(to, "Unused: ", u64::from(unused_kb(config)))?;
     Ok(())
 }

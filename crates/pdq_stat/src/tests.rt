@@ -15,6 +15,7 @@ MAX_PDQPRIORITY: 0
 DS_MAX_QUERIES: 1
 DS_MAX_SCANS: 1
 DS_TOTAL_MEMORY: 128 KB
+DS_NONPDQ_QUERY_MEM: 128 KB
 Unused: 0 KB
 Pending: none
 Queries:          Active       Ready     Maximum
@@ -36,6 +37,7 @@ MAX_PDQPRIORITY: 80
 DS_MAX_QUERIES: 7
 DS_MAX_SCANS: 30
 DS_TOTAL_MEMORY: 10000 KB
+DS_NONPDQ_QUERY_MEM: 500 KB
 Unused: 4 KB
 Pending: none
 Queries:          Active       Ready     Maximum
@@ -57,6 +59,7 @@ MAX_PDQPRIORITY: 100
 DS_MAX_QUERIES: 10
 DS_MAX_SCANS: 10
 DS_TOTAL_MEMORY: 4000 KB
+DS_NONPDQ_QUERY_MEM: 128 KB
 Unused: 0 KB
 Pending: none
 Queries:          Active       Ready     Maximum
@@ -123,14 +126,14 @@ fn statuses_print(rt: HostRuntime) -> Result<(), Fail> {
     let text = printed(rt.alloc(), &never_filled)?;
     assert_eq!(rt; text.as_str().strip_prefix("> "), Some(NEVER_FILLED));
     for (numbers, claims, want) in [
-        ([80, 10000, 7, 30], [].as_slice(), WITHOUT_AN_ENTRY),
+        ([80, 10000, 7, 30, 500], [].as_slice(), WITHOUT_AN_ENTRY),
         (
-            [100, 4000, 10, 10],
+            [100, 4000, 10, 10, 128],
             [(50, 4), (30, 2), (40, 1), (20, 1), (10, 1)].as_slice(),
             TWO_ACTIVE_AND_THREE_WAITING,
         ),
     ] {
-        let config = Config::check(numbers[0], numbers[1], numbers[2], numbers[3]);
+        let config = Config::check(numbers[0], numbers[1], numbers[2], numbers[3], numbers[4]);
         let config = config.ok_or("a valid configuration")?;
         let text = printed_after(rt.alloc(), config, claims)?;
         assert_eq!(rt; text.as_str().strip_prefix("> "), Some(want));

@@ -11,11 +11,12 @@ use Rattle.pdq_value.specs.declared.shapes.Column.{Column}
 use Rattle.pdq_value.specs.declared.shapes.Kind.{Kind}
 use Rattle.pdq_value.specs.declared.shapes.Kind.TheVariants as kind
 use Rattle.pdq_value.specs.declared.shapes.Value.{Value}
+use Rattle.pdq_value.specs.declared.shapes.Value.TheVariants.{Null}
 use Rattle.pdq_value.specs.Numbers.{number_read}
 use Rattle.pdq_value.specs.PlainTable.{most_rows, not_utf8_at, with_row, with_value}
 use Rattle.pdq_value.specs.Tables.{IsRowOf, IsValueOf}
 use Rattle.pdq_value.proofs.NumberBounds.{number_read-small}
-use Rattle.pdq_table.specs.Loading.{Place, fields_fault, header_fault, row_of, row_with, rows_below, rows_from, rows_in, value_of, value_of_number, values_of}
+use Rattle.pdq_table.specs.Loading.{Place, fields_fault, header_fault, is_null_field, row_of, row_with, rows_below, rows_from, rows_in, value_of, value_of_number, value_said, values_of}
 
 -- what is read, is so
 abbrev Reads : {X E : Type 0} → (X → Type 0) → Result X E → Type 0
@@ -38,14 +39,33 @@ number_is : (scale : ℕ) (p : Place) (column : ℕ) (r : Result ℤ NumberFault
 number_is scale p column (Ok z) h = h
 number_is scale p column (Err e) h = tt
 
+said_is : (k : Kind) (p : Place) (column : ℕ) (field : List ℕ) → is_utf8 field ≡ true → Reads (IsValueOf k) (value_said k p column field)
+said_is kind.Words p column field good = good
+said_is (kind.Number scale) p column field good = number_is scale p column _ (small _ field scale refl)
+
+null_is : (k : Kind) → IsValueOf k Null
+null_is kind.Words = tt
+null_is (kind.Number scale) = tt
+
+-- a choice of two that are so
+either : {X E : Type 0} (P : X → Type 0) (b : Bool) (x y : Result X E) → Reads P x → Reads P y → Reads P (cond b x y)
+either P true x y h k = h
+either P false x y h k = k
+
 value_is : (k : Kind) (p : Place) (column : ℕ) (field : List ℕ) → is_utf8 field ≡ true → Reads (IsValueOf k) (value_of k p column field)
-value_is kind.Words p column field good = good
-value_is (kind.Number scale) p column field good = number_is scale p column _ (small _ field scale refl)
+value_is k p column field good = either (IsValueOf k) (is_null_field k field) _ _ (null_is k) (said_is k p column field good)
 
 -- each of the fields is UTF-8
 abbrev AreUtf8 : List (List ℕ) → Type 0
 AreUtf8 [] = ⊤
 AreUtf8 (field ∷ fields) = (is_utf8 field ≡ true) × AreUtf8 fields
+
+-- the first of some fields that are UTF-8, and those after it
+pub first_is_utf8 : (column : ℕ) (field : List ℕ) (fields : List (List ℕ)) → not_utf8_at column (field ∷ fields) ≡ None → is_utf8 field ≡ true
+first_is_utf8 column field fields none = (none_at _ _ column none).0
+
+pub others_are_utf8 : (column : ℕ) (field : List ℕ) (fields : List (List ℕ)) → not_utf8_at column (field ∷ fields) ≡ None → not_utf8_at (column + 1) fields ≡ None
+others_are_utf8 column field fields none = (none_at _ _ column none).1
 
 none_at : (b : Bool) (n : Option ℕ) (column : ℕ) → cond b n (Some column) ≡ None → (b ≡ true) × (n ≡ None)
 none_at true n column e = (refl, e)
@@ -71,6 +91,10 @@ values_are (c ∷ cs) p column (field ∷ fields) e good =
 no_fault : (columns : List Column) (p : Place) (fields : List (List ℕ)) (o : Option ℕ) → fields_fault columns p fields o ≡ None → (o ≡ None) × (length fields ≡ length columns)
 no_fault columns p fields (Some column) e = absurd (grind (arith, e))
 no_fault columns p fields None e = (refl, grind (arith, nat_tests, e))
+
+-- fields without a fault are UTF-8
+pub utf8_where_no_fault : (columns : List Column) (p : Place) (fields : List (List ℕ)) (o : Option ℕ) → fields_fault columns p fields o ≡ None → o ≡ None
+utf8_where_no_fault columns p fields o e = (no_fault columns p fields o e).0
 
 row_with_is : (columns : List Column) (p : Place) (fields : List (List ℕ)) (o : Option LoadFault)
     → fields_fault columns p fields (not_utf8_at 1 fields) ≡ o → Reads (IsRowOf columns) (row_with columns p fields o)

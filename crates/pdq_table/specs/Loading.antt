@@ -1,5 +1,5 @@
 -- Tables from CSV files: the tables of a schema, or the first fault.
-use Rattle.std.specs.Prelude.{◌≡◌, ◌⊎◌, ℕ, ◌+◌, ◌*◌, List, [], ◌∷◌, nat_lt, if◌then◌else◌, ◌==◌, ℤ, Option, None, Some, Result, Ok, Err, length, map}
+use Rattle.std.specs.Prelude.{◌≡◌, ◌⊎◌, ℕ, ◌+◌, ◌*◌, List, [], ◌∷◌, nat_lt, if◌then◌else◌, ◌==◌, ℤ, Option, None, Some, Result, Ok, Err, codes, length, map, Bool, ◌||◌}
 use Rattle.std.specs.Char.{to_ascii_lowercase}
 use Rattle.std.specs.Global.{Vec}
 use Rattle.std.specs.Str.{bytes_eq}
@@ -35,10 +35,23 @@ abbrev pub value_of_number : Place → ℕ → Result ℤ NumberFault → Result
 value_of_number p column (Ok z) = Ok (value.Number z)
 value_of_number p column (Err e) = Err (Wrong BadNumber p.table p.row column)
 
+-- a field that says Null in every column
+abbrev pub null_field : List ℕ
+null_field = codes "\\N"
+
+-- the value of a field that says one
+abbrev pub value_said : Kind → Place → ℕ → List ℕ → Result Value LoadFault
+value_said kind.Words p column field = Ok (value.Words field)
+value_said (kind.Number scale) p column field = value_of_number p column (number_read field scale)
+
+-- an empty field says Null in a column of numbers, and the empty text in a column of texts
+abbrev pub is_null_field : Kind → List ℕ → Bool
+is_null_field kind.Words field = bytes_eq field null_field
+is_null_field (kind.Number scale) field = bytes_eq field null_field || length field == 0
+
 -- the value of a field in a column of this kind
 abbrev pub value_of : Kind → Place → ℕ → List ℕ → Result Value LoadFault
-value_of kind.Words p column field = Ok (value.Words field)
-value_of (kind.Number scale) p column field = value_of_number p column (number_read field scale)
+value_of k p column field = if is_null_field k field then Ok value.Null else value_said k p column field
 
 -- the values of the fields from this column on, or the first fault
 abbrev pub values_of : List Column → Place → ℕ → List (List ℕ) → Result (List Value) LoadFault

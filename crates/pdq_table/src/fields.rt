@@ -1,15 +1,16 @@
 //! The values that the fields of a record say.
-ghost use Rattle.std.specs.Prelude.{◌≡◌, ◌+◌, ◌∷◌, ◌≤◌, [], All, IfErr, IfOk, MatchOption, Ok, drop, length};
+ghost use Rattle.std.specs.Prelude.{◌≡◌, ◌+◌, ◌∷◌, ◌≤◌, [], All, IfErr, IfOk, MatchOption, None, Ok, drop, length, true};
+ghost use Rattle.std.specs.Str.{is_utf8};
 ghost use Rattle.csv.specs.Records.{fields_of};
 ghost use Rattle.pdq_dict.specs.Dictionary.{cell_limit};
 ghost use Rattle.pdq_value.specs.declared.shapes.Column.{Column};
 ghost use Rattle.pdq_value.specs.PlainTable.{most_rows, not_utf8_at};
 ghost use Rattle.pdq_value.specs.Tables.{IsKind};
-ghost use Rattle.pdq_table.specs.Loading.{Refuses, fields_fault, most_bytes, row_of, value_of, values_of};
+ghost use Rattle.pdq_table.specs.Loading.{Refuses, fields_fault, is_null_field, most_bytes, row_of, value_of, value_said, values_of};
 ghost use Rattle.pdq_table.specs.Records.{AreShort};
 
 use csv::ByteRecord;
-use pdq_base::is_utf8;
+use pdq_base::{is_text, is_utf8};
 use pdq_value::{Column, Kind, LoadFault, LoadWhy, Row, Text, Value, read_number};
 use std::alloc::Global;
 
@@ -76,8 +77,18 @@ pub(crate) fn fields_fault(
     }
 }
 
-/// The value of a field in a column of this kind.
-fn read_value(
+/// Whether a field says Null: `\N` does in every column, and no byte at all in a column of numbers.
+fn is_null_field(kind: Kind, field: &[u8]) -> bool
+    ensures value { result ≡ is_null_field kind field.now }
+{
+    match kind {
+        Kind::Words => is_text(field, b"\\N"),
+        Kind::Number { .. } => is_text(field, b"\\N") || field.is_empty(),
+    }
+}
+
+/// The value that a field says in a column of this kind.
+fn value_said(
     alloc: Global,
     kind: Kind,
     table: u32,
@@ -87,8 +98,9 @@ fn read_value(
 ) -> Result<Value, LoadFault>
     requires kind { IsKind kind }
     requires short { length field.now ≤ most_bytes }
-    ensures read { IfOk result (λ v. value_of kind (record { table = table; row = row_no }) column field.now ≡ Ok v) }
-    ensures refused { IfErr result (Refuses (value_of kind (record { table = table; row = row_no }) column field.now)) }
+    requires utf8 { is_utf8 field.now ≡ true }
+    ensures read { IfOk result (λ v. value_said kind (record { table = table; row = row_no }) column field.now ≡ Ok v) }
+    ensures refused { IfErr result (Refuses (value_said kind (record { table = table; row = row_no }) column field.now)) }
 {
     match kind {
         Kind::Words => match Text::from_bytes(alloc, field) {
@@ -102,6 +114,27 @@ fn read_value(
     }
 }
 
+/// The value of a field in a column of this kind.
+fn read_value(
+    alloc: Global,
+    kind: Kind,
+    table: u32,
+    row_no: u32,
+    column: u32,
+    field: &[u8],
+) -> Result<Value, LoadFault>
+    requires kind { IsKind kind }
+    requires short { length field.now ≤ most_bytes }
+    requires utf8 { is_utf8 field.now ≡ true }
+    ensures read { IfOk result (λ v. value_of kind (record { table = table; row = row_no }) column field.now ≡ Ok v) }
+    ensures refused { IfErr result (Refuses (value_of kind (record { table = table; row = row_no }) column field.now)) }
+{
+    if is_null_field(kind, field) {
+        return Ok(Value::Null);
+    }
+    value_said(alloc, kind, table, row_no, column, field)
+}
+
 /// The values of a record, column by column.
 fn read_values(
     alloc: Global,
@@ -112,6 +145,7 @@ fn read_values(
 ) -> Result<Vec<Value>, LoadFault>
     requires kinds { All (λ (c : Column). IsKind c.kind) columns.now }
     requires short { AreShort (fields_of row.now) }
+    requires utf8 { not_utf8_at 1 (fields_of row.now) ≡ None }
     ensures read { IfOk result (λ v. values_of columns.now (record { table = table; row = row_no }) 1 (fields_of row.now) ≡ Ok v.items) }
     ensures refused { IfErr result (Refuses (values_of columns.now (record { table = table; row = row_no }) 1 (fields_of row.now))) }
 {
@@ -131,7 +165,7 @@ fn read_values(
 }
 
 /// The row that a record says, where all tables have so many cells before it.
-#[tactic(auto, unfolding(crate::specs::Loading::row_of))]
+#[tactic(auto, using(crate::proofs::RowKinds::utf8_where_no_fault), unfolding(crate::specs::Loading::row_of))]
 pub(crate) fn read_row(
     alloc: Global,
     columns: &[Column],

@@ -10,7 +10,8 @@ use std::alloc::Global;
 
 /// The tables of a schema, each from the bytes of its file, in the order of the schema. A file is CSV as the `csv` crate reads it
 /// with its default settings: one byte order mark is passed over; the first record is the header, whose fields are the names of
-/// the columns, compared in lower case; each further record is a row, numbered from 1.
+/// the columns, compared in lower case; each further record is a row, numbered from 1. A field `\N` is Null in every column, and a
+/// field without any byte is Null in a column of numbers, whether in quotes or not.
 ///
 /// # Errors
 /// The first fault: `TooLong` for the first file of more than 134,217,728 bytes; then table by table and record by record,

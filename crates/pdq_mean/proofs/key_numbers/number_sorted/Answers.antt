@@ -22,23 +22,23 @@ overflow_sub-count c =
     let tables = tables_of c.args.db.now in
     let q = query_of c.args.query.now in
     let choices = c.args.choices.now in
-    let led = c.args.led.now in
-    let keys = keys_at tables q choices led in
+    let prefixed = c.args.prefixed.now in
+    let keys = keys_at tables q choices prefixed in
     let index = c.loop-index.index in
     let now : c.if-starts_key.count ≡ c.loop-index.count + cond c.starts_key.result 1 0 = elim c.if-starts_key.branch [
       | then-starts_key w ↦ w.count-is ∙ ap (λ b. c.loop-index.count + cond b 1 0) (sym w.if-starts_key.true)
       | else-starts_key w ↦ w.count-is ∙ sym (add-zero c.loop-index.count) ∙ ap (λ b. c.loop-index.count + cond b 1 0) (sym w.if-starts_key.false)
     ] in
     let counted = with_one c.if-starts_key.count c.loop-index.count _ _ c.starts_key.result c.starts_key.ensures.one_more c.loop-index.invariant.counted now in
-    omega (arith, counted, some_key tables q choices led index c.loop-index-test.true)
+    omega (arith, counted, some_key tables q choices prefixed index c.loop-index-test.true)
 
 pub loop-index-preserved : goal.loop-index-preserved
 loop-index-preserved c =
     let tables = tables_of c.args.db.now in
     let q = query_of c.args.query.now in
     let choices = c.args.choices.now in
-    let led = c.args.led.now in
-    let keys = keys_at tables q choices led in
+    let prefixed = c.args.prefixed.now in
+    let keys = keys_at tables q choices prefixed in
     let index = c.loop-index.index in
     let numbers = c.loop-index.numbers.items in
     let count = c.if-starts_key.count in
@@ -48,12 +48,12 @@ loop-index-preserved c =
     ] in
     let counted : count ≡ length (dedup is_row (take (index + 1) keys)) =
     with_one count c.loop-index.count _ _ c.starts_key.result c.starts_key.ensures.one_more c.loop-index.invariant.counted now in
-    let some = some_key tables q choices led index c.loop-index-test.true in
+    let some = some_key tables q choices prefixed index c.loop-index-test.true in
     record {
       counted = counted;
       few = at_most_one_more count c.loop-index.count index c.starts_key.result now c.loop-index.invariant.few;
       size = length-set numbers _ (count - 1) ∙ c.loop-index.invariant.size;
-      numbered = one_more_numbered tables q choices led c.requires.leads index _ numbers (count - 1) c.loop-index-test.true c.loop-index.invariant.size
+      numbered = one_more_numbered tables q choices prefixed c.requires.prefixes index _ numbers (count - 1) c.loop-index-test.true c.loop-index.invariant.size
           (omega (arith, counted, some)) c.loop-index.invariant.numbered;
     }
 
@@ -61,6 +61,6 @@ pub returns : goal.returns
 returns c =
     let k = c.loop-index.invariant in
     record {
-      numbers = all_numbered (tables_of c.args.db.now) (query_of c.args.query.now) c.args.choices.now c.args.led.now c.loop-index.index c.loop-index.numbers.items
+      numbers = all_numbered (tables_of c.args.db.now) (query_of c.args.query.now) c.args.choices.now c.args.prefixed.now c.loop-index.index c.loop-index.numbers.items
           c.loop-index.count c.loop-index-test.false k.size k.numbered k.counted;
     }

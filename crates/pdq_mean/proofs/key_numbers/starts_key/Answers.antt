@@ -10,6 +10,6 @@ returns c =
     let tables = tables_of c.args.db.now in
     let q = query_of c.args.query.now in
     record {
-      one_more = next_key_counts tables q c.args.choices.now c.args.led.now c.requires.leads c.args.index _ _ c.is_ne.result (omega (arith, c.if-index-eq0.false)) c.requires.within
-          (c.is_ne.ensures ∙ ap is_ne c.compare_led_places.ensures.order);
+      one_more = next_key_counts tables q c.args.choices.now c.args.prefixed.now c.requires.prefixes c.args.index _ _ c.is_ne.result (omega (arith, c.if-index-eq0.false)) c.requires.within
+          (c.is_ne.ensures ∙ ap is_ne c.compare_prefixed_places.ensures.order);
     }

@@ -13,4 +13,4 @@ returns-in-Number-clause-within c =
     let scale : c.in-Number.scale ≡ scale_of (cell_of_ref c.cell_in.result) = ap (λ r. scale_of (cell_of_ref r)) (sym c.in-Number.is) in
     let size : nat_abs c.in-Number.unscaled ≤ 10 ^ 18 = subst (λ z. nat_abs z ≤ 10 ^ 18) (sym (number ∙ ap number_of c.cell_in.ensures.value)) small.size in
     let places : c.in-Number.scale ≤ 6 = subst (λ n. n ≤ 6) (sym (scale ∙ ap scale_of c.cell_in.ensures.value)) small.places in
-    record { size = search rules; places = search rules }
+    record { size = search rules; few = search rules; places = search rules }

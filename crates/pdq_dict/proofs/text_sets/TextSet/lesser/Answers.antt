@@ -10,7 +10,7 @@ use Rattle.pdq_dict.proofs.text_sets.TextSet.lesser.Goals as goal
 
 pub returns : goal.returns
 returns c =
-    let entries = c.self.inside.leads.entries in
+    let entries = c.self.inside.prefixes.entries in
     let text : Vec ℕ × ℕ → List ℕ = λ e. vec_items e.0 in
     let seen = texts_of_keys entries ∙ c.self.view_is in
     let rising : Rises (map text entries) = subst Rises (sym seen) c.requires.rising in

@@ -3,6 +3,7 @@ use Rattle.pdq_model.specs.declared.events.Event.TheVariants.{Collect}
 use Rattle.pdq_gate.specs.Board.{state_of}
 use Rattle.pdq_gate.specs.Journal.{history_after}
 use Rattle.pdq_gate.proofs.Conserving.{conserves}
+use Rattle.pdq_gate.proofs.Workable.{workable, working_shares}
 use Rattle.pdq_gate.proofs.JournalLaws.{history_next, own_numbers}
 use Rattle.pdq_gate.proofs.manager.Manager.collect.Goals as goal
 
@@ -42,3 +43,9 @@ pub returns-clause-history : goal.returns-clause-history
 returns-clause-history c =
     rw (← c.self.view_is, ← c.session_of-session.ensures.value)
     (c.enter.ensures.history ∙ ap (λ a. history_after c.self.inside.journal.items c.session_of-session.result (Collect c.args.id) a) (c.answer.ensures.value ∙ c.collect-collected.ensures.answer.told))
+
+pub returns-clause-shares : goal.returns-clause-shares
+returns-clause-shares c =
+    workable (state_of c.self.inside.board) (state_of c.collect-collected.new.self) c.session_of-session.result c.args.id c.collect-collected.new.self.entries c.collect-collected.result
+    (working_shares c.self.inside.opening (state_of c.self.inside.board) c.self.inside.journal.items c.self.invariant.history_kept c.self.invariant.sound.model)
+    c.collect-collected.ensures.answer c.collect-collected.ensures.granted

@@ -13,7 +13,7 @@ returns-in-Sum c =
     let n = c.number_in in
     let s = c.sum in
     subst (λ t. TakesIn choice t (Sum c.in-Sum.at s.result)) (sym c.in-Sum.is)
-    (sum-takes_in c.in-Sum.at choice c.in-Sum.total n.result s.result n.ensures.number n.ensures.scale s.ensures.unscaled s.ensures.scale)
+    (sum-takes_in c.in-Sum.at choice c.in-Sum.total n.result s.result n.ensures.number n.ensures.scale n.ensures.rows s.ensures.unscaled s.ensures.scale s.ensures.rows)
 
 pub returns-in-Average : goal.returns-in-Average
 returns-in-Average c =
@@ -21,7 +21,7 @@ returns-in-Average c =
     let n = c.number_in-in-Average in
     let s = c.sum-in-Average in
     subst (λ t. TakesIn choice t (Average c.in-Average.at s.result)) (sym c.in-Average.is)
-    (average-takes_in c.in-Average.at choice c.in-Average.total n.result s.result n.ensures.number n.ensures.scale s.ensures.unscaled s.ensures.scale)
+    (average-takes_in c.in-Average.at choice c.in-Average.total n.result s.result n.ensures.number n.ensures.scale n.ensures.rows s.ensures.unscaled s.ensures.scale s.ensures.rows)
 
 pub returns-in-Least : goal.returns-in-Least
 returns-in-Least c =

@@ -1,0 +1,9 @@
+pub mod Rows
+pub mod Routes
+pub mod Shares
+pub mod Trades
+pub mod Rounds
+pub mod Many
+pub mod Steps
+pub mod Spread
+pub mod Exchanging
