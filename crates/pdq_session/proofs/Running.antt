@@ -12,7 +12,7 @@ use Rattle.pdq_session.specs.Commands.{line_of}
 use Rattle.pdq_session.specs.Replies.{fault_text}
 use Rattle.pdq_session.specs.declared.lines.LineOutcome.{LineOutcome}
 use Rattle.pdq_session.specs.Reading.{Reader, bytes_of, decided, GivesLine}
-use Rattle.pdq_session.specs.ScriptTranscript.{Out, ScriptState, AtFault, after, ended, fault_at, fault_of, run_lines, script_step, unless_fault}
+use Rattle.pdq_session.specs.ScriptTranscript.{Failures, Out, ScriptState, AtFault, after, ended, fails_later, fails_now, fault_at, fault_of, run_lines, script_step, unless_fault}
 use Rattle.pdq_session.proofs.Splitting.{IsOpenLine, not_same, open_before_end, before_end-end, before_end-other, lt_suc, lt_zero}
 
 -- a line and its end
@@ -30,25 +30,25 @@ fault_within : (before : ℕ) (line : InputLine) → is_past_input before line �
 fault_within before line within short = rw (within, short) refl
 
 -- what the first line, with its end, makes the script write
-abbrev pub rest_after : ScriptState → List ℕ → ℕ → List InputLine → Out
-rest_after s says before lines = unless_fault s (fault_of (line_of says)) (after (script_step s (line_of says)).text (run_lines (script_step s (line_of says)).state before lines))
+abbrev pub rest_after : ScriptState → List ℕ → ℕ → Failures → List InputLine → Out
+rest_after s says before failed lines = unless_fault s (fault_of (line_of says)) (after (script_step s (fails_now failed) (line_of says)).text (run_lines (script_step s (fails_now failed) (line_of says)).state before (fails_later failed) lines))
 
-run_line : (s : ScriptState) (before : ℕ) (line : InputLine) (lines : List InputLine) → is_past_input before line ≡ false → is_too_long line ≡ false →
-    run_lines s before (line ∷ lines) ≡ rest_after s (without_return line.bytes) (before + size_of line) lines
+run_line : (s : ScriptState) (before : ℕ) (failed : Failures) (line : InputLine) (lines : List InputLine) → is_past_input before line ≡ false → is_too_long line ≡ false →
+    run_lines s before failed (line ∷ lines) ≡ rest_after s (without_return line.bytes) (before + size_of line) failed lines
 unfolding run_lines
-run_line s before line lines within short = rw (fault_within before line within short) refl
+run_line s before failed line lines within short = rw (fault_within before line within short) refl
 
-run_given : (s : ScriptState) (before : ℕ) (line more : List ℕ) → IsOpenLine line → is_past_input before (record { bytes = line; ended = true }) ≡ false → is_too_long (record { bytes = line; ended = true }) ≡ false →
-    run_lines s before (lines_of (line ++ 10 ∷ more)) ≡ rest_after s (without_return line) (before + (length line + 1)) (lines_of more)
-run_given s before line more is_open within short = ap (run_lines s before) (lines_of-line line more is_open) ∙ run_line s before (record { bytes = line; ended = true }) (lines_of more) within short
+run_given : (s : ScriptState) (before : ℕ) (failed : Failures) (line more : List ℕ) → IsOpenLine line → is_past_input before (record { bytes = line; ended = true }) ≡ false → is_too_long (record { bytes = line; ended = true }) ≡ false →
+    run_lines s before failed (lines_of (line ++ 10 ∷ more)) ≡ rest_after s (without_return line) (before + (length line + 1)) failed (lines_of more)
+run_given s before failed line more is_open within short = ap (run_lines s before failed) (lines_of-line line more is_open) ∙ run_line s before failed (record { bytes = line; ended = true }) (lines_of more) within short
 
 lines_of_last : (line : List ℕ) → 0 < length line → IsOpenLine line → lines_of line ≡ record { bytes = line; ended = false } ∷ []
 lines_of_last [] some is_open = absurd (omega arith)
 lines_of_last (b ∷ line) some is_open = lines_of-last b line is_open
 
-run_given_last : (s : ScriptState) (before : ℕ) (line : List ℕ) → 0 < length line → IsOpenLine line → is_past_input before (record { bytes = line; ended = false }) ≡ false → is_too_long (record { bytes = line; ended = false }) ≡ false →
-    run_lines s before (lines_of line) ≡ rest_after s (without_return line) (before + (length line + 0)) []
-run_given_last s before line some is_open within short = ap (run_lines s before) (lines_of_last line some is_open) ∙ run_line s before (record { bytes = line; ended = false }) [] within short
+run_given_last : (s : ScriptState) (before : ℕ) (failed : Failures) (line : List ℕ) → 0 < length line → IsOpenLine line → is_past_input before (record { bytes = line; ended = false }) ≡ false → is_too_long (record { bytes = line; ended = false }) ≡ false →
+    run_lines s before failed (lines_of line) ≡ rest_after s (without_return line) (before + (length line + 0)) failed []
+run_given_last s before failed line some is_open within short = ap (run_lines s before failed) (lines_of_last line some is_open) ∙ run_line s before failed (record { bytes = line; ended = false }) [] within short
 
 -- the parts of a given line, by whether it has its end
 pub record IsGiven (before : ℕ) (bytes : List ℕ) (new : Reader) (line : List ℕ) (ended : Bool) : Type 0 where
@@ -88,29 +88,29 @@ given_with before bytes new e g is =
     }
 
 -- a line with its end is run, and then what follows it
-pub run_after_line : (s : ScriptState) (before : ℕ) (bytes more : List ℕ) (new : Reader) → GivesLine before bytes new → new.last ≡ false →
-    run_lines s before (lines_of (bytes ++ more)) ≡ rest_after s new.line new.given (lines_of (new.buffered ++ more))
-run_after_line s before bytes more new g goes =
+pub run_after_line : (s : ScriptState) (before : ℕ) (failed : Failures) (bytes more : List ℕ) (new : Reader) → GivesLine before bytes new → new.last ≡ false →
+    run_lines s before failed (lines_of (bytes ++ more)) ≡ rest_after s new.line new.given failed (lines_of (new.buffered ++ more))
+run_after_line s before failed bytes more new g goes =
     let i = given_with before bytes new true g (not_false g.line.ended (sym goes ∙ g.last)) in
     let bytes_are : bytes ++ more ≡ g.line.bytes ++ 10 ∷ (new.buffered ++ more) = ap (λ xs. xs ++ more) i.whole ∙ append_assoc (g.line.bytes ++ 10 ∷ []) new.buffered more ∙ append_assoc g.line.bytes (10 ∷ []) (new.buffered ++ more) in
-    ap (λ xs. run_lines s before (lines_of xs)) bytes_are ∙ run_given s before g.line.bytes (new.buffered ++ more) i.is_open i.within i.short
-    ∙ ap (λ xs. rest_after s xs (before + (length g.line.bytes + 1)) (lines_of (new.buffered ++ more))) (sym i.says)
-    ∙ ap (λ n. rest_after s new.line n (lines_of (new.buffered ++ more))) (sym i.given)
+    ap (λ xs. run_lines s before failed (lines_of xs)) bytes_are ∙ run_given s before failed g.line.bytes (new.buffered ++ more) i.is_open i.within i.short
+    ∙ ap (λ xs. rest_after s xs (before + (length g.line.bytes + 1)) failed (lines_of (new.buffered ++ more))) (sym i.says)
+    ∙ ap (λ n. rest_after s new.line n failed (lines_of (new.buffered ++ more))) (sym i.given)
 
 is_true : (b : Bool) → b ≡ true → IsTrue b
 is_true true is = is
 is_true false is = is
 
 -- the last line is run, and nothing follows it
-pub run_after_last : (s : ScriptState) (before : ℕ) (bytes : List ℕ) (new : Reader) → GivesLine before bytes new → new.last ≡ true → run_lines s before (lines_of bytes) ≡ rest_after s new.line new.given []
-run_after_last s before bytes new g ends =
+pub run_after_last : (s : ScriptState) (before : ℕ) (failed : Failures) (bytes : List ℕ) (new : Reader) → GivesLine before bytes new → new.last ≡ true → run_lines s before failed (lines_of bytes) ≡ rest_after s new.line new.given failed []
+run_after_last s before failed bytes new g ends =
     let i = given_with before bytes new false g (not_true g.line.ended (sym ends ∙ g.last)) in
     let none : new.buffered ≡ [] = g.none_left (is_true new.last ends) in
     let bytes_are : bytes ≡ g.line.bytes = i.whole ∙ ap (λ xs. (g.line.bytes ++ []) ++ xs) none ∙ append-nil (g.line.bytes ++ []) ∙ append-nil g.line.bytes in
     let some : 0 < length g.line.bytes = let size : 0 < length g.line.bytes + 0 = i.some in omega arith in
-    ap (λ xs. run_lines s before (lines_of xs)) bytes_are ∙ run_given_last s before g.line.bytes some i.is_open i.within i.short
-    ∙ ap (λ xs. rest_after s xs (before + (length g.line.bytes + 0)) []) (sym i.says)
-    ∙ ap (λ n. rest_after s new.line n []) (sym i.given)
+    ap (λ xs. run_lines s before failed (lines_of xs)) bytes_are ∙ run_given_last s before failed g.line.bytes some i.is_open i.within i.short
+    ∙ ap (λ xs. rest_after s xs (before + (length g.line.bytes + 0)) failed []) (sym i.says)
+    ∙ ap (λ n. rest_after s new.line n failed []) (sym i.given)
 
 -- the first of these lines
 abbrev pub first_of : List InputLine → InputLine
@@ -161,10 +161,10 @@ extends [] more = record { longer = omega arith; larger = omega arith }
 extends (b ∷ bytes) more = extends_by b bytes more (b == 10) refl (extends bytes more)
 
 -- a first line with a fault ends the script
-pub run_fault : (s : ScriptState) (before : ℕ) (lines : List InputLine) (reason : LineFault) → 0 < size_of (first_of lines) → fault_at before (first_of lines) ≡ Some reason → run_lines s before lines ≡ record { text = fault_text reason; ending = AtFault; state = s }
+pub run_fault : (s : ScriptState) (before : ℕ) (failed : Failures) (lines : List InputLine) (reason : LineFault) → 0 < size_of (first_of lines) → fault_at before (first_of lines) ≡ Some reason → run_lines s before failed lines ≡ record { text = fault_text reason; ending = AtFault; state = s }
 unfolding run_lines
-run_fault s before [] reason some is = absurd (omega arith)
-run_fault s before (line ∷ lines) reason some is = rw is refl
+run_fault s before failed [] reason some is = absurd (omega arith)
+run_fault s before failed (line ∷ lines) reason some is = rw is refl
 
 abbrev choice : Bool → Bool → Bool → Option LineOutcome
 choice past long ended = if past then Some outcome.InputTooLong else if long then Some outcome.LineTooLong else if ended then Some outcome.Line else None
@@ -197,8 +197,8 @@ long_is : (m : ℕ) → nat_lt 8192 m ≡ true → 8193 ≤ m
 long_is m long = grind (arith, nat_tests)
 
 -- a line that is too long ends the script, whatever comes
-pub run_too_long : (s : ScriptState) (before : ℕ) (bytes more : List ℕ) → decided before bytes ≡ Some outcome.LineTooLong → run_lines s before (lines_of (bytes ++ more)) ≡ record { text = fault_text fault.LineTooLong; ending = AtFault; state = s }
-run_too_long s before bytes more is =
+pub run_too_long : (s : ScriptState) (before : ℕ) (failed : Failures) (bytes more : List ℕ) → decided before bytes ≡ Some outcome.LineTooLong → run_lines s before failed (lines_of (bytes ++ more)) ≡ record { text = fault_text fault.LineTooLong; ending = AtFault; state = s }
+run_too_long s before failed bytes more is =
     let was = first_line bytes in
     let goes = first_of (lines_of (bytes ++ more)) in
     let found = chosen_long (is_past_input before was) (is_too_long was) was.ended is in
@@ -210,11 +210,11 @@ run_too_long s before bytes more is =
     let within : is_past_input before goes ≡ false = past_long before (size_of was) (size_of goes) size_was size_goes found.0 in
     let too_long : is_too_long goes ≡ true = long_more (length was.bytes) (length goes.bytes) longer found.1 in
     let faults : fault_at before goes ≡ Some fault.LineTooLong = rw (within, too_long) refl in
-    run_fault s before (lines_of (bytes ++ more)) fault.LineTooLong (omega arith) faults
+    run_fault s before failed (lines_of (bytes ++ more)) fault.LineTooLong (omega arith) faults
 
 -- an input that is too long ends the script, whatever comes
-pub run_past_input : (s : ScriptState) (before : ℕ) (bytes more : List ℕ) → before ≤ 16777216 → decided before bytes ≡ Some outcome.InputTooLong → run_lines s before (lines_of (bytes ++ more)) ≡ record { text = fault_text fault.InputTooLong; ending = AtFault; state = s }
-run_past_input s before bytes more early is =
+pub run_past_input : (s : ScriptState) (before : ℕ) (failed : Failures) (bytes more : List ℕ) → before ≤ 16777216 → decided before bytes ≡ Some outcome.InputTooLong → run_lines s before failed (lines_of (bytes ++ more)) ≡ record { text = fault_text fault.InputTooLong; ending = AtFault; state = s }
+run_past_input s before failed bytes more early is =
     let was = first_line bytes in
     let goes = first_of (lines_of (bytes ++ more)) in
     let found = chosen_past (is_past_input before was) (is_too_long was) was.ended is in
@@ -222,9 +222,9 @@ run_past_input s before bytes more early is =
     let past : is_past_input before goes ≡ true = past_more before (size_of was) (size_of goes) e.larger found in
     let some : 0 < size_of goes = past_some before (size_of was) (size_of goes) early e.larger found in
     let faults : fault_at before goes ≡ Some fault.InputTooLong = rw past refl in
-    run_fault s before (lines_of (bytes ++ more)) fault.InputTooLong some faults
+    run_fault s before failed (lines_of (bytes ++ more)) fault.InputTooLong some faults
 
 -- no line is left
-pub run_none : (s : ScriptState) (before : ℕ) (bytes : List ℕ) → bytes ≡ [] → run_lines s before (lines_of bytes) ≡ ended s
+pub run_none : (s : ScriptState) (before : ℕ) (failed : Failures) (bytes : List ℕ) → bytes ≡ [] → run_lines s before failed (lines_of bytes) ≡ ended s
 unfolding run_lines
-run_none s before bytes none = rw none refl
+run_none s before failed bytes none = rw none refl

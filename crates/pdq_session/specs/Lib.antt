@@ -6,3 +6,4 @@ pub mod Replies
 pub mod ScriptTranscript
 pub mod Progress
 pub mod Answers
+pub mod PrintedLines

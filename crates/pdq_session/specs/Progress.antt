@@ -1,7 +1,6 @@
 -- How far a script has come, and what it took and wrote on the way.
-use Rattle.std.specs.Prelude.{ℕ, ◌≡◌, ◌≤◌, ◌⊎◌, List, [], ◌++◌, Bool, true, false, Option, Some, None, IsTrue}
+use Rattle.std.specs.Prelude.{ℕ, ◌≡◌, ◌⊎◌, List, [], ◌∷◌, ◌++◌, Bool, true, false, Option, Some, None, IsTrue, ◌≤◌}
 use Rattle.pdq_edge.specs.Bytes.{Grows, GrewSome}
-use Rattle.pdq_model.specs.State.{State}
 use Rattle.pdq_model.specs.Step.{is_open}
 use Rattle.pdq_session.specs.declared.scripts.Turn.{Turn}
 use Rattle.pdq_session.specs.declared.scripts.Turn.TheVariants as turn
@@ -12,29 +11,29 @@ use Rattle.pdq_session.specs.Commands.{line_of}
 use Rattle.pdq_base.specs.Lines.{lines_of}
 use Rattle.pdq_session.specs.Replies.{fault_text}
 use Rattle.pdq_session.specs.Reading.{Reader, Took, decided, remaining}
-use Rattle.pdq_session.specs.ScriptTranscript.{Out, ScriptEnding, AtEnd, AtFault, after, fault_of, own_session, run_lines, script_step}
+use Rattle.pdq_session.specs.ScriptTranscript.{Failures, Out, failures_in, ScriptEnding, ScriptState, AtEnd, AtFault, after, fault_of, own_session, run_lines, script_step}
 
--- the manager's state, the reader of lines, and the replies that are not yet written
+-- what the script keeps, the reader of lines, and the replies that are not yet written
 pub record Progress : Type 0 where
-  pub manager : State
+  pub state : ScriptState
   pub reader : Reader
   pub replies : List ℕ
 
-abbrev pub progress : State → Reader → List ℕ → Progress
-progress manager reader replies = record { manager = manager; reader = reader; replies = replies }
+abbrev pub progress : ScriptState → Reader → List ℕ → Progress
+progress state reader replies = record { state = state; reader = reader; replies = replies }
 
--- what is written from here on, once these bytes have come too
-abbrev pub rest_of : Progress → List ℕ → Out
-rest_of p bytes = after p.replies (run_lines (record { manager = p.manager }) p.reader.given (lines_of (p.reader.buffered ++ bytes)))
+-- what is written from here on, once these bytes have come too, where stores fail at these lines
+abbrev pub rest_of : Progress → List ℕ → Failures → Out
+rest_of p bytes failed = after p.replies (run_lines p.state p.reader.given failed (lines_of (p.reader.buffered ++ bytes)))
 
 -- more lines can be run
 pub record IsGoing (p : Progress) : Type 0 where
-  pub session : IsTrue (is_open p.manager own_session)
+  pub session : IsTrue (is_open p.state.manager own_session)
   pub early : p.reader.given ≤ 16777216
 
--- these bytes came and this text was written, and the script goes on from there
-pub record GoesOn (old new : Progress) (text bytes : List ℕ) : Type 0 where
-  pub each : (more : List ℕ) → rest_of old (bytes ++ more) ≡ after text (rest_of new more)
+-- these bytes came, a store failed or not at each of the lines that were run, this text was written, and the script goes on from there
+pub record GoesOn (old new : Progress) (text bytes : List ℕ) (failed : Failures) : Type 0 where
+  pub each : (more : List ℕ) (later : Failures) → rest_of old (bytes ++ more) (failed ++ later) ≡ after text (rest_of new more later)
 
 -- what a source has told: its bytes to come, how many it gave, and whether it has ended
 pub record SourceView : Type 0 where
@@ -56,74 +55,110 @@ Came before now bytes = Took before.left now.left before.taken now.taken bytes
 -- the script took bytes from the source, and what was ready went to the sink
 pub record Played (before now : SourceView) (written0 written : Option (List ℕ)) (old new : Progress) : Type 0 where
   pub bytes : List ℕ
+  pub failed : Failures
   pub text : List ℕ
   pub came : Came before now bytes
   pub grew : Grows written0 written text
-  pub runs : GoesOn old new text bytes
+  pub runs : GoesOn old new text bytes failed
+  pub few : failures_in failed ≡ 0
 
 -- the input has ended, and all its lines were answered
 pub record PlayedAll (before now : SourceView) (written0 written : Option (List ℕ)) (old new : Progress) : Type 0 where
   pub bytes : List ℕ
+  pub failed : Failures
   pub text : List ℕ
   pub came : Came before now bytes
   pub grew : Grows written0 written text
   pub ended : IsTrue now.ended
   pub none_left : remaining before.left now.left ≡ []
   pub buffered : new.reader.buffered ≡ []
-  pub runs : rest_of old bytes ≡ after text (rest_of new [])
+  pub runs : (later : Failures) → rest_of old bytes (failed ++ later) ≡ after text (rest_of new [] later)
+  pub few : failures_in failed ≡ 0
 
 -- a line was refused, and all was written
 pub record PlayedBad (before now : SourceView) (written0 written : Option (List ℕ)) (old new : Progress) : Type 0 where
   pub bytes : List ℕ
+  pub failed : Failures
   pub text : List ℕ
   pub came : Came before now bytes
   pub grew : Grows written0 written text
-  pub ends : (more : List ℕ) → CanFollow before now more → rest_of old (bytes ++ more) ≡ record { text = text; ending = AtFault; state = record { manager = new.manager } }
+  pub ends : (more : List ℕ) (later : Failures) → CanFollow before now more → rest_of old (bytes ++ more) (failed ++ later) ≡ record { text = text; ending = AtFault; state = new.state }
+  pub few : failures_in failed ≡ 0
 
--- this text begins the whole
-pub record Begins (whole text : List ℕ) : Type 0 where
-  pub tail : List ℕ
-  pub part : whole ≡ text ++ tail
+-- this part begins the whole
+pub record Begins {X : Type 0} (whole front : List X) : Type 0 where
+  pub tail : List X
+  pub part : whole ≡ front ++ tail
 
 -- the source failed before it gave the rest of a line
 pub record PlayedUnread (before now : SourceView) (written0 written : Option (List ℕ)) (old new : Progress) : Type 0 where
   pub played : Played before now written0 written old new
   pub undecided : decided new.reader.given new.reader.buffered ≡ None
 
--- the script was cut off, and what was written begins what would have been written
-pub record PlayedSome (before now : SourceView) (written0 written : Option (List ℕ)) (old : Progress) : Type 0 where
+-- the script was cut off: what was written begins what would have been written, and the entries that were made begin those that would have been made
+pub record PlayedSome (before now : SourceView) (written0 written : Option (List ℕ)) (old : Progress) (state : ScriptState) : Type 0 where
   pub bytes : List ℕ
+  pub failed : Failures
   pub text : List ℕ
   pub came : Came before now bytes
   pub grew : Grows written0 written text
-  pub begins : (more : List ℕ) → CanFollow before now more → Begins (rest_of old (bytes ++ more)).text text
+  pub begins : (more : List ℕ) (later : Failures) → CanFollow before now more → Begins (rest_of old (bytes ++ more) (failed ++ later)).text text
+  pub entries : (more : List ℕ) (later : Failures) → CanFollow before now more → Begins (rest_of old (bytes ++ more) (failed ++ later)).state.history state.history
+  pub few : failures_in failed ≡ 0
 
--- the source gave some bytes; whatever can follow them, the whole text was written
-pub record Wrote (before now : SourceView) (written0 written : Option (List ℕ)) (out : List ℕ → Out) (ending : ScriptEnding) (state : State) : Type 0 where
+-- the source gave some bytes, stores failed at few enough lines; whatever can follow, this text was written, and it is the whole with what it ends in
+pub record WroteAll {R : Type 0} (before now : SourceView) (written0 written : Option (List ℕ)) (is_few : Failures → Type 0) (out : List ℕ → Failures → R) (with_text : List ℕ → R) : Type 0 where
   pub bytes : List ℕ
+  pub failed : Failures
   pub text : List ℕ
+  pub few : is_few failed
   pub came : Came before now bytes
   pub grew : Grows written0 written text
-  pub whole : (more : List ℕ) → CanFollow before now more → out (bytes ++ more) ≡ record { text = text; ending = ending; state = record { manager = state } }
+  pub whole : (more : List ℕ) (later : Failures) → CanFollow before now more → out (bytes ++ more) (failed ++ later) ≡ with_text text
 
--- the source gave some bytes; whatever can follow them, what was written begins the whole text
-pub record WroteSome (before now : SourceView) (written0 written : Option (List ℕ)) (out : List ℕ → Out) : Type 0 where
+-- the source gave some bytes, stores failed at few enough lines; whatever can follow, what was written begins the whole text
+pub record WrotePart (before now : SourceView) (written0 written : Option (List ℕ)) (is_few : Failures → Type 0) (text_of : List ℕ → Failures → List ℕ) : Type 0 where
   pub bytes : List ℕ
+  pub failed : Failures
   pub text : List ℕ
+  pub few : is_few failed
   pub came : Came before now bytes
   pub grew : Grows written0 written text
-  pub begins : (more : List ℕ) → CanFollow before now more → Begins (out (bytes ++ more)).text text
+  pub begins : (more : List ℕ) (later : Failures) → CanFollow before now more → Begins (text_of (bytes ++ more) (failed ++ later)) text
+
+-- what a script is, from its bytes and the lines at which stores failed to what it writes
+abbrev pub Script : Type 0
+Script = List ℕ → Failures → Out
+
+-- the text of a script
+abbrev pub script_text : Script → List ℕ → Failures → List ℕ
+script_text out bytes failed = (out bytes failed).text
+
+-- a script that uses no store fails at no line
+abbrev pub NoStoreFails : Failures → Type 0
+NoStoreFails failed = failures_in failed ≡ 0
+
+-- a script that wrote its whole text, ended so and left this
+abbrev pub WroteScript : SourceView → SourceView → Option (List ℕ) → Option (List ℕ) → Script → ScriptEnding → ScriptState → Type 0
+WroteScript before now written0 written out ending state = WroteAll before now written0 written NoStoreFails out (λ text. record { text = text; ending = ending; state = state })
+
+-- a script that was cut off: of its text a first part was written, and of its entries these, the first, were made
+pub record WroteSome (before now : SourceView) (written0 written : Option (List ℕ)) (out : Script) (state : ScriptState) : Type 0 where
+  pub wrote : WrotePart before now written0 written NoStoreFails (script_text out)
+  pub entered : (more : List ℕ) (later : Failures) → CanFollow before now more → Begins (out (wrote.bytes ++ more) (wrote.failed ++ later)).state.history state.history
 
 -- the source gave some bytes, and all that their lines are answered was written; what follows begins with a part of a line that has no end yet
-pub record WroteAnswers (before now : SourceView) (written0 written : Option (List ℕ)) (out : List ℕ → Out) (state : State) : Type 0 where
+pub record WroteAnswers (before now : SourceView) (written0 written : Option (List ℕ)) (out : Script) (state : ScriptState) : Type 0 where
   pub bytes : List ℕ
+  pub failed : Failures
   pub text : List ℕ
+  pub few : NoStoreFails failed
   pub came : Came before now bytes
   pub grew : Grows written0 written text
   pub given : ℕ
   pub part : List ℕ
   pub undecided : decided given part ≡ None
-  pub follows : (more : List ℕ) → out (bytes ++ more) ≡ after text (run_lines (record { manager = state }) given (lines_of (part ++ more)))
+  pub follows : (more : List ℕ) (later : Failures) → out (bytes ++ more) (failed ++ later) ≡ after text (run_lines state given later (lines_of (part ++ more)))
 
 -- how a part of a run ends: by its turn
 abbrev pub Turns : Turn → SourceView → SourceView → Option (List ℕ) → Option (List ℕ) → Progress → Progress → Type 0
@@ -131,16 +166,16 @@ Turns turn.On before now written0 written old new = Played before now written0 w
 Turns turn.End before now written0 written old new = PlayedAll before now written0 written old new
 Turns turn.Bad before now written0 written old new = PlayedBad before now written0 written old new
 Turns turn.ReadFault before now written0 written old new = PlayedUnread before now written0 written old new
-Turns turn.WriteFault before now written0 written old new = PlayedSome before now written0 written old
-Turns turn.Memory before now written0 written old new = PlayedSome before now written0 written old
+Turns turn.WriteFault before now written0 written old new = PlayedSome before now written0 written old new.state
+Turns turn.Memory before now written0 written old new = PlayedSome before now written0 written old new.state
 
--- a line was answered, and is not refused
+-- a line was answered, and is not refused; no store failed at it
 pub record Answered (says : List ℕ) (old new : Progress) : Type 0 where
   pub good : fault_of (line_of says) ≡ None
-  pub state : new.manager ≡ (script_step (record { manager = old.manager }) (line_of says)).state.manager
-  pub replies : new.replies ≡ old.replies ++ (script_step (record { manager = old.manager }) (line_of says)).text
+  pub state : new.state ≡ (script_step old.state false (line_of says)).state
+  pub replies : new.replies ≡ old.replies ++ (script_step old.state false (line_of says)).text
   pub reader : new.reader ≡ old.reader
-  pub session : IsTrue (is_open new.manager own_session)
+  pub session : IsTrue (is_open new.state.manager own_session)
 
 -- how the line of a fault is written behind these replies: whole, a first part of it, or nothing
 abbrev pub Refuses : Turn → LineFault → Option (List ℕ) → Option (List ℕ) → List ℕ → Type 0
@@ -156,7 +191,12 @@ pub record IsRefused (which : Turn) (says : List ℕ) (written0 written : Option
   pub reason : LineFault
   pub bad : fault_of (line_of says) ≡ Some reason
   pub refuses : Refuses which reason written0 written old.replies
-  pub state : new.manager ≡ old.manager
+  pub state : new.state ≡ old.state
+
+-- memory was wanting at a line: nothing was written, and what the line does to the manager was done, or it is refused
+pub record Wants (says : List ℕ) (written0 written : Option (List ℕ)) (old new : Progress) : Type 0 where
+  pub unwritten : written ≡ written0
+  pub state : new.state ≡ (script_step old.state false (line_of says)).state
 
 -- how a line is answered that says this, and that the end of the input ended or not
 abbrev pub Answers : Turn → List ℕ → Bool → Option (List ℕ) → Option (List ℕ) → Progress → Progress → Type 0
@@ -165,7 +205,7 @@ Answers turn.End says last written0 written old new = Answered says old new × (
 Answers turn.Bad says last written0 written old new = IsRefused turn.Bad says written0 written old new
 Answers turn.ReadFault says last written0 written old new = ⊥
 Answers turn.WriteFault says last written0 written old new = IsRefused turn.WriteFault says written0 written old new
-Answers turn.Memory says last written0 written old new = written ≡ written0
+Answers turn.Memory says last written0 written old new = Wants says written0 written old new
 
 -- how the last line is written behind these replies: whole, a first part of it, or nothing
 abbrev pub Concludes : ScriptEnd → Option (List ℕ) → Option (List ℕ) → List ℕ → Type 0
@@ -176,15 +216,15 @@ Concludes script_end.WriteFault written0 written text = GrewSome written0 writte
 Concludes script_end.Memory written0 written text = written ≡ written0
 
 -- the script ran to the end of its input
-pub record RanWhole (before now : SourceView) (written0 written : Option (List ℕ)) (out : List ℕ → Out) (state : State) (store_failed : Bool) : Type 0 where
-  pub wrote : Wrote before now written0 written out AtEnd state
+pub record RanToEnd (before now : SourceView) (written0 written : Option (List ℕ)) (out : Script) (state : ScriptState) (store_failed : Bool) : Type 0 where
+  pub wrote : WroteScript before now written0 written out AtEnd state
   pub ended : IsTrue now.ended
   pub no_fault : store_failed ≡ false
 
--- how a script ends, whose bytes come from a source and whose text goes to a sink
-abbrev pub Ends : ScriptEnd → SourceView → SourceView → Option (List ℕ) → Option (List ℕ) → (List ℕ → Out) → State → Type 0
-Ends (script_end.End store_failed) before now written0 written out state = RanWhole before now written0 written out state store_failed
-Ends script_end.BadScript before now written0 written out state = Wrote before now written0 written out AtFault state
-Ends script_end.ReadFault before now written0 written out state = WroteSome before now written0 written out
-Ends script_end.WriteFault before now written0 written out state = WroteSome before now written0 written out
-Ends script_end.Memory before now written0 written out state = WroteSome before now written0 written out
+-- how a script ends, whose bytes come from a source and whose text goes to a sink, and what it leaves
+abbrev pub Ends : ScriptEnd → SourceView → SourceView → Option (List ℕ) → Option (List ℕ) → Script → ScriptState → Type 0
+Ends (script_end.End store_failed) before now written0 written out state = RanToEnd before now written0 written out state store_failed
+Ends script_end.BadScript before now written0 written out state = WroteScript before now written0 written out AtFault state
+Ends script_end.ReadFault before now written0 written out state = WroteSome before now written0 written out state
+Ends script_end.WriteFault before now written0 written out state = WroteSome before now written0 written out state
+Ends script_end.Memory before now written0 written out state = WroteSome before now written0 written out state

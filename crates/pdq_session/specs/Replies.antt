@@ -22,10 +22,6 @@ session_text session admin step = codes "SESSION " ++ decimal session ++ codes "
 abbrev pub placed_text : ℕ → ℕ → ℕ → ℕ → List ℕ
 placed_text id step priority gate = codes "QUERY " ++ decimal id ++ codes " STEP " ++ decimal step ++ codes " PRIORITY " ++ decimal priority ++ codes " GATE " ++ decimal gate ++ 10 ∷ []
 
--- a claim has effective priority 0
-abbrev pub outside_text : ℕ → List ℕ
-outside_text step = codes "OUTSIDE STEP " ++ decimal step ++ 10 ∷ []
-
 -- a query has ended
 abbrev pub done_text : ℕ → ℕ → List ℕ
 done_text id step = codes "DONE " ++ decimal id ++ codes " STEP " ++ decimal step ++ 10 ∷ []

@@ -14,5 +14,5 @@ mod tests;
 pub use answers::{
     add_answer, add_refused_schema, add_refused_select, add_refused_table, add_too_many_rows,
 };
-pub use script_laws::scripts_keep_rules;
+pub use script_laws::{scripts_keep_rules, texts_keep_limits};
 pub use scripts::{ScriptEnd, script_in};

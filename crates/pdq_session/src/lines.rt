@@ -215,7 +215,7 @@ impl LineReader {
         ensures undecided { result ≡ LineOutcome.Failed → decided self.new.given self.new.buffered ≡ None }
         ensures sure { result ≡ LineOutcome.Failed → decided self.old.given self.old.buffered ≡ None }
         ensures failed { result ≡ LineOutcome.Failed → Rose (So.faults source.old) (So.faults source.new) }
-        ensures later { So.faults source.old ≤ So.faults source.new }
+        ensures passed { result ≢ LineOutcome.Failed → So.faults source.new ≡ So.faults source.old }
     {
         'reads: loop {
             if let Some(outcome) = self.take_held() {

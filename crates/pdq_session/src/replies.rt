@@ -1,6 +1,6 @@
 //! The text of the replies and of the refusals.
 ghost use Rattle.std.specs.Prelude.{◌≡◌, ◌++◌, OnOk, flat_map, string_bytes};
-ghost use Rattle.pdq_session.specs.Replies.{admit_text, admits_text, cancelled_text, done_text, end_line, fault_text, outside_text, placed_text, refusal_number, refusal_text, refusal_words, role_of, session_text, stopped_text, why_number, why_words};
+ghost use Rattle.pdq_session.specs.Replies.{admit_text, admits_text, cancelled_text, done_text, end_line, fault_text, placed_text, refusal_number, refusal_text, refusal_words, role_of, session_text, stopped_text, why_number, why_words};
 
 use pdq_model::{Admit, Why};
 use std::alloc::{AllocError, Global};
@@ -117,14 +117,6 @@ pub(crate) fn add_placed(
     ensures text { OnOk result (out.new.items ≡ out.old.items ++ placed_text id step priority gate) }
 {
     let text = format!(in alloc; "QUERY {id} STEP {step} PRIORITY {priority} GATE {gate}\n")?;
-    add(out, text)
-}
-
-/// Adds the reply to a claim of effective priority 0.
-pub(crate) fn add_outside(alloc: Global, out: &mut Vec<u8>, step: u64) -> Result<(), AllocError>
-    ensures text { OnOk result (out.new.items ≡ out.old.items ++ outside_text step) }
-{
-    let text = format!(in alloc; "OUTSIDE STEP {step}\n")?;
     add(out, text)
 }
 

@@ -1,21 +1,20 @@
 //! Scripts: lines that are run on the manager one after another.
-ghost use Rattle.std.specs.Prelude.{◌≡◌, ◌≢◌, ◌<◌, ◌≤◌, ◌++◌, ◌==◌, [], None, true, IsTrue, OnErr, OnOk};
+ghost use Rattle.std.specs.Prelude.{◌≡◌, ◌≢◌, ◌<◌, ◌≤◌, ◌++◌, ◌==◌, [], None, true, false, IsTrue, OnErr, OnOk};
 ghost use Rattle.pdq_edge.specs.Bytes.{Grows, GrewSome};
 ghost use Rattle.pdq_edge.specs.Causes.{HasCause, Rose};
-ghost use Rattle.pdq_model.specs.State.{opening_state};
 ghost use Rattle.pdq_model.specs.Step.{is_open, next};
 ghost use Rattle.pdq_gate.specs.Queries.{holder_of, session_of, MayFinish};
 ghost use Rattle.pdq_session.specs.Commands.{InLimits};
 ghost use Rattle.pdq_session.specs.Progress.{progress, source_view, Answers, Concludes, Ends, IsGoing, Refuses, Turns, WroteAnswers};
 ghost use Rattle.pdq_session.specs.Reading.{decided};
 ghost use Rattle.pdq_session.specs.Replies.{end_text, session_text};
-ghost use Rattle.pdq_session.specs.ScriptTranscript.{claim_step, done_step, fault_of, finish_step, own_session, script_step, script_transcript, starting_state};
+ghost use Rattle.pdq_session.specs.ScriptTranscript.{claim_step, done_step, fault_of, finish_step, opening_script, own_session, script_state, script_step, script_transcript, starting_state};
 
 use crate::commands::{Command, read_line};
 use crate::lines::{LineOutcome, LineReader};
 use crate::replies::{
-    LineFault, Refusal, add_admits, add_cancelled, add_done, add_end, add_fault, add_outside,
-    add_placed, add_refusal, add_session, add_stopped,
+    LineFault, Refusal, add_admits, add_cancelled, add_done, add_end, add_fault, add_placed,
+    add_refusal, add_session, add_stopped,
 };
 use pdq_edge::{Failed, Sink, Source, write_all};
 use pdq_frame::Region;
@@ -73,7 +72,7 @@ fn refuse<Si: Sink>(replies: &mut Vec<u8>, fault: LineFault, sink: &mut Si) -> T
     ensures refuses { Refuses result fault (Si.written sink.old) (Si.written sink.new) replies.old.items }
     ensures no_read { result ≢ Turn.ReadFault }
     ensures write { result ≡ Turn.WriteFault → Rose (Si.faults sink.old) (Si.faults sink.new) }
-    ensures write_later { Si.faults sink.old ≤ Si.faults sink.new }
+    ensures write_none { result ≢ Turn.WriteFault → Si.faults sink.new ≡ Si.faults sink.old }
 {
     let Ok(()) = add_fault(replies, fault) else {
         return Turn::Memory;
@@ -96,8 +95,8 @@ fn claim(
     requires priority { priority ≤ 100 }
     requires some_frags { 1 ≤ frags }
     requires frags { frags ≤ 16 }
-    ensures replies { OnOk result (replies.new.items ≡ replies.old.items ++ (claim_step (record { manager = manager.old.state }) priority frags).text) }
-    ensures state { manager.new.state ≡ (claim_step (record { manager = manager.old.state }) priority frags).state.manager }
+    ensures replies { OnOk result (replies.new.items ≡ replies.old.items ++ (claim_step (script_state manager.old) priority frags).text) }
+    ensures state { script_state manager.new ≡ (claim_step (script_state manager.old) priority frags).state }
     ensures session { IsTrue (is_open manager.new.state own_session) }
     ensures opening { manager.new.opening ≡ manager.old.opening }
 {
@@ -113,7 +112,6 @@ fn claim(
             add_placed(alloc, replies, id, step, priority, gate)?;
             add_admits(alloc, replies, manager.admitted())
         }
-        Ok(Submitted::Outside { step }) => add_outside(alloc, replies, step),
         Err(refused) => add_refusal(alloc, replies, Refusal::Manager(refused.why), refused.step),
     }
 }
@@ -130,8 +128,8 @@ fn finish(
     requires may { MayFinish manager.old.state id region.frames }
     requires holder { holder_of manager.old.state id ≡ own_session }
     requires session { IsTrue (is_open manager.old.state own_session) }
-    ensures replies { OnOk result (replies.new.items ≡ replies.old.items ++ (finish_step manager.old.state id flagged).text) }
-    ensures state { manager.new.state ≡ (finish_step manager.old.state id flagged).state.manager }
+    ensures replies { OnOk result (replies.new.items ≡ replies.old.items ++ (finish_step (script_state manager.old) id flagged).text) }
+    ensures state { script_state manager.new ≡ (finish_step (script_state manager.old) id flagged).state }
     ensures session { IsTrue (is_open manager.new.state own_session) }
     ensures opening { manager.new.opening ≡ manager.old.opening }
 {
@@ -164,8 +162,8 @@ fn done(
     id: u32,
 ) -> Result<(), AllocError>
     requires session { IsTrue (is_open manager.old.state own_session) }
-    ensures replies { OnOk result (replies.new.items ≡ replies.old.items ++ (done_step (record { manager = manager.old.state }) id).text) }
-    ensures state { manager.new.state ≡ (done_step (record { manager = manager.old.state }) id).state.manager }
+    ensures replies { OnOk result (replies.new.items ≡ replies.old.items ++ (done_step (script_state manager.old) id).text) }
+    ensures state { script_state manager.new ≡ (done_step (script_state manager.old) id).state }
     ensures session { IsTrue (is_open manager.new.state own_session) }
     ensures opening { manager.new.opening ≡ manager.old.opening }
 {
@@ -202,8 +200,8 @@ fn run_command(
     requires good { fault_of command ≡ None }
     requires limits { InLimits command }
     requires session { IsTrue (is_open manager.old.state own_session) }
-    ensures replies { OnOk result (replies.new.items ≡ replies.old.items ++ (script_step (record { manager = manager.old.state }) command).text) }
-    ensures state { manager.new.state ≡ (script_step (record { manager = manager.old.state }) command).state.manager }
+    ensures replies { OnOk result (replies.new.items ≡ replies.old.items ++ (script_step (script_state manager.old) false command).text) }
+    ensures state { script_state manager.new ≡ (script_step (script_state manager.old) false command).state }
     ensures session { IsTrue (is_open manager.new.state own_session) }
     ensures opening { manager.new.opening ≡ manager.old.opening }
 {
@@ -216,6 +214,7 @@ fn run_command(
 }
 
 /// Answers the line that the reader has given.
+#[tactic(auto, unfolding(crate::specs::ScriptTranscript::script_step))]
 fn answer_line<Si: Sink>(
     alloc: Global,
     manager: &mut Manager,
@@ -225,12 +224,12 @@ fn answer_line<Si: Sink>(
 ) -> Turn
     requires session { IsTrue (is_open manager.old.state own_session) }
     ensures answers { Answers result reader.now.line reader.now.last (Si.written sink.old) (Si.written sink.new)
-        (progress manager.old.state reader.now replies.old.items) (progress manager.new.state reader.now replies.new.items) }
+        (progress (script_state manager.old) reader.now replies.old.items) (progress (script_state manager.new) reader.now replies.new.items) }
     ensures no_read { result ≢ Turn.ReadFault }
     ensures session { IsTrue (is_open manager.new.state own_session) }
     ensures opening { manager.new.opening ≡ manager.old.opening }
     ensures write { result ≡ Turn.WriteFault → Rose (Si.faults sink.old) (Si.faults sink.new) }
-    ensures write_later { Si.faults sink.old ≤ Si.faults sink.new }
+    ensures write_none { result ≢ Turn.WriteFault → Si.faults sink.new ≡ Si.faults sink.old }
 {
     let command = read_line(reader.line());
     if let Command::Refused(fault) = command {
@@ -255,18 +254,18 @@ fn next_turn<So: Source, Si: Sink>(
     source: &mut So,
     sink: &mut Si,
 ) -> Turn
-    requires going { IsGoing (progress manager.old.state reader.old replies.old.items) }
+    requires going { IsGoing (progress (script_state manager.old) reader.old replies.old.items) }
     ensures turns { Turns result (source_view So.left So.taken So.ended source.old) (source_view So.left So.taken So.ended source.new)
-        (Si.written sink.old) (Si.written sink.new) (progress manager.old.state reader.old replies.old.items) (progress manager.new.state reader.new replies.new.items) }
-    ensures going { result ≡ Turn.On → IsGoing (progress manager.new.state reader.new replies.new.items) }
+        (Si.written sink.old) (Si.written sink.new) (progress (script_state manager.old) reader.old replies.old.items) (progress (script_state manager.new) reader.new replies.new.items) }
+    ensures going { result ≡ Turn.On → IsGoing (progress (script_state manager.new) reader.new replies.new.items) }
     ensures more { result ≡ Turn.On → reader.old.given < reader.new.given }
     ensures opening { manager.new.opening ≡ manager.old.opening }
     ensures sure { result ≡ Turn.ReadFault → decided reader.old.given reader.old.buffered ≡ None }
     ensures kept { result ≡ Turn.ReadFault → replies.new.items ≡ replies.old.items }
     ensures read { result ≡ Turn.ReadFault → Rose (So.faults source.old) (So.faults source.new) }
-    ensures read_later { So.faults source.old ≤ So.faults source.new }
+    ensures read_none { result ≢ Turn.ReadFault → So.faults source.new ≡ So.faults source.old }
     ensures write { result ≡ Turn.WriteFault → Rose (Si.faults sink.old) (Si.faults sink.new) }
-    ensures write_later { Si.faults sink.old ≤ Si.faults sink.new }
+    ensures write_none { result ≢ Turn.WriteFault → Si.faults sink.new ≡ Si.faults sink.old }
 {
     match reader.next_line(source) {
         LineOutcome::Line => answer_line(alloc, manager, reader, replies, sink),
@@ -286,17 +285,17 @@ fn take_line<So: Source, Si: Sink>(
     source: &mut So,
     sink: &mut Si,
 ) -> Turn
-    requires going { IsGoing (progress manager.old.state reader.old replies.old.items) }
+    requires going { IsGoing (progress (script_state manager.old) reader.old replies.old.items) }
     ensures turns { Turns result (source_view So.left So.taken So.ended source.old) (source_view So.left So.taken So.ended source.new)
-        (Si.written sink.old) (Si.written sink.new) (progress manager.old.state reader.old replies.old.items) (progress manager.new.state reader.new replies.new.items) }
-    ensures going { result ≡ Turn.On → IsGoing (progress manager.new.state reader.new replies.new.items) }
+        (Si.written sink.old) (Si.written sink.new) (progress (script_state manager.old) reader.old replies.old.items) (progress (script_state manager.new) reader.new replies.new.items) }
+    ensures going { result ≡ Turn.On → IsGoing (progress (script_state manager.new) reader.new replies.new.items) }
     ensures more { result ≡ Turn.On → reader.old.given < reader.new.given }
     ensures opening { manager.new.opening ≡ manager.old.opening }
     ensures ready { result ≡ Turn.ReadFault → replies.new.items ≡ [] }
     ensures read { result ≡ Turn.ReadFault → Rose (So.faults source.old) (So.faults source.new) }
-    ensures read_later { So.faults source.old ≤ So.faults source.new }
+    ensures read_none { result ≢ Turn.ReadFault → So.faults source.new ≡ So.faults source.old }
     ensures write { result ≡ Turn.WriteFault → Rose (Si.faults sink.old) (Si.faults sink.new) }
-    ensures write_later { Si.faults sink.old ≤ Si.faults sink.new }
+    ensures write_none { result ≢ Turn.WriteFault → Si.faults sink.new ≡ Si.faults sink.old }
 {
     if reader.has_line() {
         return next_turn(alloc, manager, reader, replies, source, sink);
@@ -316,16 +315,16 @@ fn run_lines<So: Source, Si: Sink>(
     source: &mut So,
     sink: &mut Si,
 ) -> Turn
-    requires going { IsGoing (progress manager.old.state reader.old replies.old.items) }
+    requires going { IsGoing (progress (script_state manager.old) reader.old replies.old.items) }
     ensures turns { Turns result (source_view So.left So.taken So.ended source.old) (source_view So.left So.taken So.ended source.new)
-        (Si.written sink.old) (Si.written sink.new) (progress manager.old.state reader.old replies.old.items) (progress manager.new.state reader.new replies.new.items) }
+        (Si.written sink.old) (Si.written sink.new) (progress (script_state manager.old) reader.old replies.old.items) (progress (script_state manager.new) reader.new replies.new.items) }
     ensures stops { result ≢ Turn.On }
     ensures opening { manager.new.opening ≡ manager.old.opening }
     ensures ready { result ≡ Turn.ReadFault → replies.new.items ≡ [] }
     ensures read { result ≡ Turn.ReadFault → Rose (So.faults source.old) (So.faults source.new) }
-    ensures read_later { So.faults source.old ≤ So.faults source.new }
+    ensures read_none { result ≢ Turn.ReadFault → So.faults source.new ≡ So.faults source.old }
     ensures write { result ≡ Turn.WriteFault → Rose (Si.faults sink.old) (Si.faults sink.new) }
-    ensures write_later { Si.faults sink.old ≤ Si.faults sink.new }
+    ensures write_none { result ≢ Turn.WriteFault → Si.faults sink.new ≡ Si.faults sink.old }
 {
     'lines: loop {
         let turn = take_line(alloc, manager, reader, replies, source, sink);
@@ -344,7 +343,7 @@ fn conclude<Si: Sink>(
 ) -> ScriptEnd
     ensures concludes { Concludes result (Si.written sink.old) (Si.written sink.new) (replies.old.items ++ end_text manager.now.state) }
     ensures write { result ≡ ScriptEnd.WriteFault → Rose (Si.faults sink.old) (Si.faults sink.new) }
-    ensures write_later { Si.faults sink.old ≤ Si.faults sink.new }
+    ensures write_none { result ≢ ScriptEnd.WriteFault → Si.faults sink.new ≡ Si.faults sink.old }
 {
     let step = manager.step();
     let reserved = manager.reserved_quanta();
@@ -363,8 +362,8 @@ fn conclude<Si: Sink>(
 
 /// Opens the script's own session.
 fn start(alloc: Global, manager: &mut Manager, replies: &mut Vec<u8>) -> Result<(), AllocError>
-    requires fresh { manager.old.state ≡ opening_state manager.old.opening }
-    ensures state { manager.new.state ≡ (starting_state manager.old.opening).manager }
+    requires fresh { script_state manager.old ≡ opening_script manager.old.opening }
+    ensures state { script_state manager.new ≡ starting_state manager.old.opening }
     ensures session { IsTrue (is_open manager.new.state own_session) }
     ensures replies { OnOk result (replies.new.items ≡ replies.old.items ++ session_text own_session true manager.new.state.entries) }
     ensures opening { manager.new.opening ≡ manager.old.opening }
@@ -377,28 +376,33 @@ fn start(alloc: Global, manager: &mut Manager, replies: &mut Vec<u8>) -> Result<
 
 /// Runs the source as a script without tables on a manager that has no entry, and writes its transcript to the sink.
 /// Replies are written before the source is read again. The sink is not flushed.
+///
+/// The journal of the manager gets the entries of the transcript's lines, each with its event and its reply: all of them
+/// where the script ran to its end or to a refused line, those of the lines that were answered where the source failed,
+/// and else the first of them.
 pub fn script_in<So: Source, Si: Sink>(
     alloc: Global,
     manager: &mut Manager,
     source: &mut So,
     sink: &mut Si,
 ) -> ScriptEnd
-    requires fresh { manager.old.state ≡ opening_state manager.old.opening }
+    requires fresh { script_state manager.old ≡ opening_script manager.old.opening }
 
-    // The whole transcript was written, or what was written before a fault begins it.
+    // The whole transcript was written and all its entries were made, or what was written before a fault begins it, and the
+    // entries that were made begin its entries.
     ensures ends { Ends result (source_view So.left So.taken So.ended source.old) (source_view So.left So.taken So.ended source.new)
-        (Si.written sink.old) (Si.written sink.new) (script_transcript manager.old.opening) manager.new.state }
+        (Si.written sink.old) (Si.written sink.new) (script_transcript manager.old.opening) (script_state manager.new) }
     ensures opening { manager.new.opening ≡ manager.old.opening }
 
     // Before the source is read, all that its lines so far are answered was written.
     ensures answered { result ≡ ScriptEnd.ReadFault → WroteAnswers (source_view So.left So.taken So.ended source.old) (source_view So.left So.taken So.ended source.new)
-        (Si.written sink.old) (Si.written sink.new) (script_transcript manager.old.opening) manager.new.state }
+        (Si.written sink.old) (Si.written sink.new) (script_transcript manager.old.opening) (script_state manager.new) }
 
-    // A fault has its cause.
+    // A fault is answered exactly where the count of source or sink rose.
     ensures read { result ≡ ScriptEnd.ReadFault → Rose (So.faults source.old) (So.faults source.new) }
-    ensures read_later { So.faults source.old ≤ So.faults source.new }
+    ensures read_none { result ≢ ScriptEnd.ReadFault → So.faults source.new ≡ So.faults source.old }
     ensures write { result ≡ ScriptEnd.WriteFault → Rose (Si.faults sink.old) (Si.faults sink.new) }
-    ensures write_later { Si.faults sink.old ≤ Si.faults sink.new }
+    ensures write_none { result ≢ ScriptEnd.WriteFault → Si.faults sink.new ≡ Si.faults sink.old }
 {
     let Ok(mut reader) = LineReader::new(alloc) else {
         return ScriptEnd::Memory;

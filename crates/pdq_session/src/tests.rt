@@ -10,7 +10,7 @@ use std::test::Fail;
 
 // What a script of these lines writes, and how it ends, with 4,000 KB, 10 queries and 10 scan threads.
 fn transcript(alloc: Global, lines: &str) -> Result<(String, ScriptEnd), Fail> {
-    let config = Config::check(100, 4000, 10, 10).ok_or("a valid configuration")?;
+    let config = Config::check(100, 4000, 10, 10, 128).ok_or("a valid configuration")?;
     let mut source = SureSource::new(Vec::from_slice(alloc, lines.as_bytes())?);
     let mut sink = SureSink::new(alloc);
     let pool = Pool::new(alloc, config.frames_per_quantum(), config.max_queries())?;
@@ -41,9 +41,9 @@ fn scripts_print(rt: HostRuntime) -> Result<(), Fail> {
             "QUERY 1 STEP 2 PRIORITY 100 GATE 0\nADMIT 1 QUANTA 10 SCANS 1\nQUERY 2 STEP 3 PRIORITY 50 GATE 1\nQUERY 3 STEP 4 PRIORITY 40 GATE 3\nDONE 1 STEP 6\nADMIT 2 QUANTA 5 SCANS 1\nADMIT 3 QUANTA 4 SCANS 1\nEND STEP 6 RESERVED 9 SCANS 2 WAITING 0\n",
         ),
         (
-            "# nothing\n\n \t\n\tCLAIM\t0  4\nCLAIM 007 1\nCLAIM 100 1\nDONE 2\nDONE 3\nDONE 99999999999\nCLAIM 1 1\n",
+            "# nothing\n\n \t\n\tCLAIM\t0  4\nCLAIM 007 1\nCLAIM 100 1\nDONE 3\nDONE 4\nDONE 99999999999\nCLAIM 1 1\n",
             ScriptEnd::BadScript,
-            "OUTSIDE STEP 1\nQUERY 1 STEP 2 PRIORITY 7 GATE 0\nADMIT 1 QUANTA 1 SCANS 1\nQUERY 2 STEP 3 PRIORITY 100 GATE 1\nERROR 22 not now AT STEP 3\nERROR 13 no such query AT STEP 3\nERROR 1 bad line AT 0\n",
+            "QUERY 1 STEP 2 PRIORITY 0 GATE 0\nADMIT 1 QUANTA 1 SCANS 1\nQUERY 2 STEP 3 PRIORITY 7 GATE 0\nADMIT 2 QUANTA 1 SCANS 1\nQUERY 3 STEP 4 PRIORITY 100 GATE 1\nERROR 22 not now AT STEP 4\nERROR 13 no such query AT STEP 4\nERROR 1 bad line AT 0\n",
         ),
     ] {
         let (text, ended) = transcript(rt.alloc(), lines)?;
