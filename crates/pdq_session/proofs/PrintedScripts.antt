@@ -1,6 +1,6 @@
 -- What a script prints keeps the limits after each line.
 use Rattle.std.proofs.Common.{ℕ, zero, suc, ◌≡◌, ◌+◌, ◌≤◌, List, [], ◌∷◌, ◌++◌, Option, None, Some, Bool, true, false, cond, length, refl, sym, ap, ◌∙◌, subst, arith, append_assoc}
-use Rattle.std.specs.Prelude.{IsTrue, not, ◌&&◌, ◌==◌, if◌then◌else◌, count_by, filter, flat_map, map, option_and_then, remove, slice_get, slice_set, sum_by}
+use Rattle.std.specs.Prelude.{IsTrue, not, ◌&&◌, ◌==◌, if◌then◌else◌, filter, flat_map, map, option_and_then, remove, slice_get, slice_set, sum_by}
 use Rattle.std.proofs.lemmas.Bool.{false≢true}
 use Rattle.std.proofs.lemmas.Bool.Decides.{nat_tests}
 use Rattle.std.proofs.lemmas.Grind.{flat_map-append}
@@ -20,11 +20,11 @@ use Rattle.pdq_model.specs.declared.events.How.TheVariants as how
 use Rattle.pdq_model.specs.declared.events.Reply.TheVariants as reply
 use Rattle.pdq_model.specs.declared.events.Why.TheVariants as why
 use Rattle.pdq_model.specs.Configuration.{Configuration, IsValid}
-use Rattle.pdq_model.specs.State.{State, opening_state}
+use Rattle.pdq_model.specs.State.{State}
 use Rattle.pdq_model.specs.Gates.{refusing_gate, reserved_quanta, scans_in_use, waiting_place}
 use Rattle.pdq_model.specs.Settling.{admit_of, settle, take_if_idle, take_pending, IsSettled}
-use Rattle.pdq_model.specs.Step.{changed, changed_at, collected, entered, decide, next, after_answer, admitted_after, answer_to_collect, active_place, active_row, withdrawn_place, withdrawn_of, without, is_entered}
-use Rattle.pdq_model.specs.History.{IsLegal, may_collect, replay, was_collected}
+use Rattle.pdq_model.specs.Step.{changed_at, collected, decide, next, after_answer, admitted_after, answer_to_collect, active_place, active_row, withdrawn_place, withdrawn_of, without, is_entered}
+use Rattle.pdq_model.specs.History.{may_collect, was_collected}
 use Rattle.pdq_model.specs.Laws.{counted, queries_numbered, rows_admitted, AdmitsHeads, HasOwnNumbers, IsWithinLimits}
 use Rattle.pdq_model.proofs.Histories.{active_after_admissions, admits_heads, limits_are_kept}
 use Rattle.pdq_model.proofs.Lists.{place_passes}
@@ -38,9 +38,9 @@ use Rattle.pdq_session.specs.declared.replies.LineFault.{LineFault}
 use Rattle.pdq_session.specs.declared.replies.Refusal.{Refusal}
 use Rattle.pdq_session.specs.declared.replies.Refusal.TheVariants as refusal
 use Rattle.pdq_session.specs.Commands.{InLimits, line_of, skip_blanks}
-use Rattle.pdq_session.specs.Replies.{admit_text, admits_text, cancelled_text, done_text, refusal_text, stopped_text}
-use Rattle.pdq_session.specs.ScriptTranscript.{Failures, Out, ScriptState, after, after_event, claim_step, claim_text, collect_step, done_step, ended, fails_later, fails_now, fault_at, own_session, refused_step, run_lines, script_step, script_transcript, starting_state, unless_fault}
-use Rattle.pdq_session.specs.PrintedLines.{Account, IsWithin, PrintedLine, PrintsWithinLimits, StaysWithin, TextsKeepLimits, account_after, opening_account, print, without_query}
+use Rattle.pdq_session.specs.Replies.{admit_text, admits_text, cancelled_text, refusal_text}
+use Rattle.pdq_session.specs.ScriptTranscript.{Failures, Out, ScriptState, after, after_event, claim_step, claim_text, collect_step, done_step, fails_later, fails_now, fault_at, own_session, refused_step, run_lines, script_step, starting_state, unless_fault}
+use Rattle.pdq_session.specs.PrintedLines.{Account, IsWithin, PrintedLine, StaysWithin, TextsKeepLimits, account_after, opening_account, print, without_query}
 use Rattle.pdq_session.specs.PrintedLines.PrintedLine.{Session, Placed, Admitted, Done, Stopped, Cancelled, Refused, Faulty, End}
 use Rattle.pdq_session.proofs.LegalScripts.{IsLedTo, collecting, granted_active, granted_collected, led_collected, led_finished, led_start, led_step, led_submitted, settle_settled, settled_there, trimmed_within}
 

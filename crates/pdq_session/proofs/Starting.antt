@@ -5,7 +5,6 @@ use Rattle.std.proofs.lemmas.List.{append-nil, take-append-drop}
 use Rattle.pdq_edge.specs.Bytes.{Grows}
 use Rattle.pdq_model.specs.Configuration.{Configuration}
 use Rattle.pdq_model.specs.Settling.{settle}
-use Rattle.pdq_model.specs.State.{State}
 use Rattle.pdq_model.specs.Step.{is_open}
 use Rattle.pdq_session.specs.declared.scripts.ScriptEnd.{ScriptEnd}
 use Rattle.pdq_session.specs.declared.scripts.ScriptEnd.TheVariants as script_end

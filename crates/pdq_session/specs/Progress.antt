@@ -1,5 +1,5 @@
 -- How far a script has come, and what it took and wrote on the way.
-use Rattle.std.specs.Prelude.{ℕ, ◌≡◌, ◌⊎◌, List, [], ◌∷◌, ◌++◌, Bool, true, false, Option, Some, None, IsTrue, ◌≤◌}
+use Rattle.std.specs.Prelude.{ℕ, ◌≡◌, ◌⊎◌, List, [], ◌++◌, Bool, true, false, Option, Some, None, IsTrue, ◌≤◌}
 use Rattle.pdq_edge.specs.Bytes.{Grows, GrewSome}
 use Rattle.pdq_model.specs.Step.{is_open}
 use Rattle.pdq_session.specs.declared.scripts.Turn.{Turn}
