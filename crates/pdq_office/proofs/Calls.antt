@@ -2,7 +2,7 @@
 use Rattle.std.proofs.Common.{ℕ, ◌≡◌, ◌≢◌, ◌∙◌, ◌⊎◌, List, [], ◌∷◌, ◌++◌, Option, None, Some, Bool, true, false, drop, map, length, refl, sym, ap, subst, inl, inr, arith, length-append}
 use Rattle.std.specs.Prelude.{◌-◌, ◌&&◌, ◌||◌, ◌==◌, unwrap_or, ◌*◌, IsTrue, IsSome, IsSomeAnd, if◌then◌else◌}
 use Rattle.std.proofs.Math.Seq.{drop-append_seam, drop-length}
-use Rattle.std.proofs.lemmas.Bool.{ne_eqb, eqb-true, false≢true, cases_eq}
+use Rattle.std.proofs.lemmas.Bool.{eq-eqb, ne_eqb, eqb-true, false≢true, cases_eq}
 use Rattle.pdq_model.specs.declared.events.Entry.{Entry}
 use Rattle.pdq_model.specs.declared.events.Event.{Event}
 use Rattle.pdq_model.specs.declared.events.Event.TheVariants.{CloseSession}
@@ -219,3 +219,10 @@ module _ (p q : PassValue) (m : ManagerView) (event : Event) (answer : Answer) (
       other : (j : ℕ) → is_among j (without id ids) ≡ false → (j ≡ id) ⊎ (j ≢ id) → queries_of (after_answer m.state (session_of p) event answer) (session_of p) j ≡ 0
       other j absent (inl is) = ap (λ (k : ℕ). queries_of (after_answer m.state (session_of p) event answer) (session_of p) k) is ∙ gone
       other j absent (inr differ) = none_added m.state (session_of p) (session_of p) j event answer (none j) (found_true (known p) (known q) m (session_of p) event answer t (inr has_it.own) honest (None_but (session_of p) ids) had j (absent_others j id ids absent differ))
+
+-- where the only unfinished query ends none is left
+pub ended_alone : (p q : PassValue) (id only : ℕ) → only ≡ id → Ends id p q → Unfinished p (only ∷ []) → Unfinished q []
+ended_alone p q id only same ended had = subst (λ (ids : List ℕ). Unfinished q ids) alone (ended (only ∷ []) had)
+  where
+    alone : without id (only ∷ []) ≡ []
+    alone = rw (eq-eqb only id same) refl

@@ -32,6 +32,10 @@ use Rattle.pdq_turn.specs.declared.view.PassView.{PassView}
 use Rattle.pdq_turn.proofs.History.{is_among-neither}
 use Rattle.pdq_office.proofs.Parties.{next_is_new, next_has_none}
 use Rattle.pdq_office.proofs.Turning.{with_party_has}
+use Rattle.pdq_office.specs.declared.answers.Placed.{Placed}
+use Rattle.pdq_office.specs.declared.answers.Sent.{Sent}
+use Rattle.pdq_office.specs.declared.answers.Sent.TheVariants as sent
+use Rattle.pdq_office.specs.declared.pass.Ticket.{Ticket}
 use Rattle.pdq_office.specs.Turns.{view_after}
 use Rattle.pdq_model.specs.Kept.{to_collect, IsLent}
 use Rattle.pdq_model.proofs.Staying.{ticket_sent}
@@ -45,6 +49,15 @@ use Rattle.pdq_office.proofs.Unique.{lent_from_grant, one_if}
 use Rattle.pdq_office.proofs.Knowing.{IsStable, None_but, only_stable, ticket_stable, loan_stable, open_stable, counted_open}
 use Rattle.pdq_office.proofs.Turning.{turn_known, still_party, found_true, turn_only}
 use Rattle.pdq_office.proofs.Calls.{session_known, adds_none, ends, state_numbers, ticket_found}
+
+-- a submission that is accepted has a ticket
+pub sent_is : (s : Sent) → (ticket : Ticket) × (placed : Placed) × (s ≡ sent.Ticket ticket placed)
+sent_is (sent.Ticket ticket placed) = (ticket, placed, refl)
+
+-- what is told of a submission is told of its ticket
+pub sent_parts : (p q : PassValue) (s : Sent) (ticket : Ticket) (placed : Placed) → s ≡ sent.Ticket ticket placed
+    → OnSent (Ok s) (λ t pl. (t.id ≡ pl.id) × IsTicket q t × Adds pl.id p q) (AddsNone p q) → (ticket.id ≡ placed.id) × IsTicket q ticket × Adds placed.id p q
+sent_parts p q s ticket placed is told = subst (λ (x : Sent). OnSent (Ok x) (λ t pl. (t.id ≡ pl.id) × IsTicket q t × Adds pl.id p q) (AddsNone p q)) is told
 
 -- the office tells what the manager told
 pub told_sent : (answer : Answer) (step : ℕ) (r : Result Submitted Refused) → IsSubmitted answer step r → IsSent answer step (sent_of r)

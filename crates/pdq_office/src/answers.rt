@@ -21,6 +21,16 @@ pub enum Sent {
     Ticket(Ticket, Placed),
 }
 
+impl Sent {
+    /// The ticket, and how the query was placed.
+    pub fn parts(self) -> (Ticket, Placed)
+        ensures value { self ≡ Sent.Ticket result.0 result.1 }
+    {
+        let Sent::Ticket(ticket, placed) = self;
+        (ticket, placed)
+    }
+}
+
 /// What a collected query was granted: the region of its quanta, its quanta and scan threads, its effective priority, and the step at which it
 /// was cancelled, if it was.
 pub struct Grant {
