@@ -77,9 +77,9 @@ impl TextSet {
         ensures rising { OnOk result (IsStrictlySortedBy text_cmp self.new) }
         ensures same { IsPermutation self.old self.new }
     {
-        let Ok(()) = self
-            .prefixes
-            .sort_unstable_by(|a, a_prefix, b, b_prefix| compare_prefixed(a, *a_prefix, b, *b_prefix))
+        let Ok(()) = self.prefixes.sort_unstable_by(|a, a_prefix, b, b_prefix| compare_prefixed(
+            a, *a_prefix, b, *b_prefix,
+        ))
         else {
             return Err(Memory);
         };

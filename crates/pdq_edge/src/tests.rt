@@ -236,10 +236,9 @@ fn store_in_a_file(rt: HostRuntime) -> Result<(), Fail> {
     );
     drop(unused);
     drop(store);
-    let left = fs::read_dir(&rt, &folder)?.count();
-    assert_eq!(rt; left, 0, "no file is left behind");
+    // It goes only where it is empty, so no file is left behind.
+    fs::remove_dir(&rt, &folder)?;
 
-    fs::remove_dir_all(&rt, &folder)?;
     let made = FileSpill::new(rt.alloc(), rt, folder.as_path(), &mut counter);
     let mut store = made.map_err(|_| "memory")?;
     assert_eq!(rt;

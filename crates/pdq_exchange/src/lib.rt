@@ -12,6 +12,8 @@ mod plan;
 mod roles;
 mod round;
 mod routing;
+#[cfg(test)]
+mod tests;
 
 pub use batch::Batch;
 pub use desk::Desk;

@@ -1,7 +1,7 @@
 -- Groups in a region: under the head of each bucket stands a tree by the further bits of their keys' hashes.
 use Rattle.std.specs.Prelude.{◌≡◌, ◌≢◌, ℕ, zero, suc, nat_le, ◌+◌, ◌*◌, ◌/◌, ◌%◌, ◌^◌, ◌<◌, ℤ, List, [], ◌∷◌, ◌++◌, length, map, take, slice_index_or, Bool, true, false, Option, Some, None}
 use Rattle.std.specs.List.{fold}
-use Rattle.pdq_spill.specs.Hashes.{mixed, reduced}
+use Rattle.pdq_spill.specs.Hashes.{group_factor, mixed, reduced}
 use Rattle.pdq_frame.specs.Regions.{RegionView, Row, Children, room, no_children, child_on, link_at}
 
 -- the bits of a hash that its reduction to a head leaves over, the first of them on top
@@ -18,7 +18,7 @@ rest bits = (bits * 2) % 2 ^ 64
 
 -- the hash of a key; the factor is that of groupers alone
 unfoldable pub hash_of : List ℤ → ℕ
-hash_of key = fold (mixed 15485863646312837395) 0 key
+hash_of key = fold (mixed group_factor) 0 key
 
 -- the head under which a key is looked for
 abbrev pub bucket_of : ℕ → List ℤ → ℕ

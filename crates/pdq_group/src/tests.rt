@@ -6,7 +6,9 @@ use crate::{Fold, Folded, GroupShape, Grouper, Steps};
 use pdq_edge::{Spill, SureSpill};
 use pdq_frame::Pool;
 use pdq_spill::{Bench, ExecFault, RowOut};
+use std::alloc::Global;
 use std::marker::Brand;
+use std::process::Abort;
 use std::sync::ledger::{Blank, Ledger};
 use std::test::Fail;
 
@@ -75,7 +77,8 @@ fn ended<L: Ledger>(
 
 /// Groups rows by their first words, in a region of 2 frames. How many keys were kept there, and how many blocks were put.
 fn grouped<const N: usize>(
-    rt: &HostRuntime,
+    rt: &impl Abort,
+    alloc: Global,
     folds: &[Fold],
     rows: &[[i64; N]],
     out: &mut Words,
@@ -85,7 +88,6 @@ fn grouped<const N: usize>(
     requires few { length rows.now ≤ 1000 }
     requires out { out.old.width ≡ 1 + words_of_folds folds.now }
 {
-    let alloc = rt.alloc();
     let mut pool = Pool::new(alloc, 2, 1).map_err(|_| "memory")?;
     let shape = GroupShape {
         keys: 1,
@@ -120,7 +122,7 @@ fn folds_of_each_key(rt: HostRuntime) -> Result<(), Fail> {
     };
     let rows = [[1, 10, 0], [2, 5, 0], [1, -4, 0]];
     assert_eq!(rt;
-        grouped(&rt, &[Fold::Sum, Fold::Count], &rows, &mut out)?,
+        grouped(&rt, rt.alloc(), &[Fold::Sum, Fold::Count], &rows, &mut out)?,
         (2, 0)
     );
     assert_eq!(rt; out.words.as_slice(), [1, 6, 0, 2, 2, 5, 0, 1].as_slice());
@@ -140,7 +142,7 @@ fn null_is_no_value(rt: HostRuntime) -> Result<(), Fail> {
         [7, NULL, NULL, NULL, NULL, 0],
         [7, -2, 2, 3, 3, NULL],
     ];
-    assert_eq!(rt; grouped(&rt, &folds, &rows, &mut out)?, (2, 0));
+    assert_eq!(rt; grouped(&rt, rt.alloc(), &folds, &rows, &mut out)?, (2, 0));
     let want = [
         7, -3, -1, 150, 0, 3, 5, 3, NULL, 0, NULL, 0, NULL, NULL, NULL, 1,
     ];
@@ -171,7 +173,7 @@ fn passes_over_the_keys_without_room(rt: HostRuntime) -> Result<(), Fail> {
         };
         assert!(rt; rows.len() <= 1000);
         assert_eq!(rt;
-            grouped(&rt, &[Fold::Count], &rows, &mut out)?,
+            grouped(&rt, alloc, &[Fold::Count], &rows, &mut out)?,
             (kept, puts)
         );
         assert!(rt; out.words.as_slice() == want.as_slice());

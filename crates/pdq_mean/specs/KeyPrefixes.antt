@@ -1,4 +1,4 @@
--- The prefixes of cells, by which rows and choices are compared first.
+-- The key prefixes of cells, by which rows and choices are compared first.
 use Rattle.std.specs.Prelude.{◌≡◌, ℕ, List, [], ◌∷◌, Bool, false, nat_lt, if◌then◌else◌, ℤ, pos, drop, length, min}
 use Rattle.std.specs.Global.{Vec}
 use Rattle.std.specs.Ordering.{int_cmp, nat_cmp, on, then_cmp}
@@ -14,7 +14,7 @@ use Rattle.pdq_mean.specs.declared.key_prefixes.KeyPrefix.{KeyPrefix}
 use Rattle.pdq_mean.specs.declared.key_prefixes.Prefixed.{Prefixed}
 use Rattle.pdq_mean.specs.Rows.{vector_cmp}
 
--- the number of a number, the prefix of a text
+-- the number of a number, the key prefix of a text
 abbrev pub prefix_number : Cell → ℤ
 prefix_number Nothing = pos 0
 prefix_number (Number z s) = z
@@ -26,7 +26,7 @@ prefix_rest Nothing = 0
 prefix_rest (Number z s) = s
 prefix_rest (Words t) = min (length t) 16
 
--- this is the prefix of the cell, whose text is bytes
+-- this is the key prefix of the cell, whose text is bytes
 pub record IsKeyPrefixOf (l : KeyPrefix) (c : Cell) : Type 0 where
   pub rank : l.rank ≡ rank_of c
   pub number : l.number ≡ prefix_number c

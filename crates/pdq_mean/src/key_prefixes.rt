@@ -1,4 +1,4 @@
-//! Prefixes: what is compared first of a cell, beside the row or the choice that it prefixes, so that few comparisons go to the cell itself.
+//! Key prefixes: what is compared first of a cell, kept beside the row or the choice that has it, so that few comparisons go to the cell itself.
 ghost use Rattle.std.specs.Prelude.{◌≡◌, IfOk, map};
 ghost use Rattle.pdq_mean.specs.CellRefs.{cell_of_ref};
 ghost use Rattle.pdq_mean.specs.KeyPrefixes.{IsKeyPrefixOf, is_whole, prefix_cmp};
@@ -12,7 +12,7 @@ use std::cmp::Ordering;
 /// From this length on a text is more than its prefix.
 const LONG: usize = 16;
 
-/// The prefix of a cell: its rank, 0 for nothing, 1 for a number and 2 for a text; its number in units of its last decimal place, or the prefix
+/// The key prefix of a cell: its rank, 0 for nothing, 1 for a number and 2 for a text; its number in units of its last decimal place, or the key prefix
 /// of its text; and its scale, or the length of its text, 16 where it is longer. The widest field stands first, so that none is padded.
 #[derive(Clone, Copy)]
 pub struct KeyPrefix {
@@ -21,14 +21,14 @@ pub struct KeyPrefix {
     rest: u32,
 }
 
-/// An item beside the prefix of the cell that is compared first.
+/// An item beside the key prefix of the cell that is compared first.
 #[derive(Drop)]
 pub struct Prefixed<T> {
     pub prefix: KeyPrefix,
     pub item: T,
 }
 
-/// The prefix of a cell.
+/// The key prefix of a cell.
 pub fn prefix_of(cell: CellRef<'_>) -> KeyPrefix
     ensures prefix { IsKeyPrefixOf result (cell_of_ref cell.entry) }
 {

@@ -9,6 +9,7 @@ mod States
 mod Runs
 mod Viable
 mod Bytes
+mod NumberBytes
 mod Lines
 mod LineRuns
 mod Places

@@ -1,5 +1,5 @@
 //! Bytes into tokens, the longest token first.
-ghost use Rattle.std.specs.Prelude.{◌≡◌, ◌+◌, ◌^◌, ◌<◌, ◌≤◌, ◌++◌, length, IfOk, false};
+ghost use Rattle.std.specs.Prelude.{◌≡◌, ◌+◌, ◌^◌, ◌<◌, ◌≤◌, ◌++◌, ◌==◌, length, IfOk, false, slice_index, take, true};
 ghost use Rattle.std.specs.Char.{is_ascii_digit};
 ghost use Rattle.std.specs.Str.{is_utf8, bytes_eq};
 ghost use Rattle.pdq_base.specs.Lines.{is_blank};
@@ -117,8 +117,10 @@ fn number_len(bytes: &[u8]) -> usize
     }
 }
 
+/// The number of the first n bytes.
 fn number(alloc: Global, bytes: &[u8], n: usize) -> Result<(TokenKind, usize), AllocError>
     requires within { n ≤ length bytes.now }
+    requires utf8 { is_utf8 (take n bytes.now) ≡ true }
     ensures value { IfOk result (λ r. r ≡ number_token bytes.now n) }
 {
     let bytes = Vec::from_slice(alloc, &bytes[..n])?;
@@ -198,6 +200,7 @@ fn begins_word(bytes: &[u8]) -> bool
 /// What begins with a minus.
 fn minus(alloc: Global, bytes: &[u8]) -> Result<(TokenKind, usize), AllocError>
     requires size { length bytes.now < 2 ^ 32 }
+    requires minus { (slice_index bytes.now 0 == 45) ≡ true }
     ensures value { IfOk result (λ r. r ≡ minus_token bytes.now) }
 {
     match bytes {
@@ -265,7 +268,7 @@ fn symbol(first: u8, rest: &[u8]) -> (TokenKind, usize)
 }
 
 /// The token at the front, and how parts bytes it takes.
-#[tactic(auto, unfolding(crate::specs::Tokens::token_of))]
+#[tactic(auto, using(crate::proofs::NumberBytes::number_utf8), unfolding(crate::specs::Tokens::token_of))]
 fn token(alloc: Global, bytes: &[u8]) -> Result<(TokenKind, usize), AllocError>
     requires size { length bytes.now < 2 ^ 32 }
     ensures value { IfOk result (λ r. r ≡ token_of bytes.now) }

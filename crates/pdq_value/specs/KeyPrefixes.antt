@@ -1,4 +1,4 @@
--- The prefix of a text: its first bytes as one number, by which texts are compared first.
+-- The key prefix of a text: its first bytes as one number, by which texts are compared first.
 use Rattle.std.specs.Prelude.{◌≡◌, ℕ, zero, suc, ◌+◌, ◌*◌, ◌^◌, ◌<◌, List, [], ◌∷◌, All}
 use Rattle.std.specs.Ordering.{nat_cmp}
 use Rattle.std.specs.Cmp.Lexicographic.{slice_cmp}
@@ -17,6 +17,6 @@ text_prefix bytes = leading 15 bytes
 abbrev pub AreBytes : List ℕ → Type 0
 AreBytes numbers = All (λ b. b < 256) numbers
 
--- a text with a lesser prefix is the lesser one
+-- a text with a lesser key prefix is the lesser one
 abbrev pub LesserPrefixesAreLesserTexts : Type 0
 LesserPrefixesAreLesserTexts = (a b : List ℕ) → AreBytes b → text_prefix a < text_prefix b → slice_cmp nat_cmp a b ≡ Less

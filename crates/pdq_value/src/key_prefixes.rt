@@ -1,8 +1,8 @@
-//! The prefixes of texts: numbers by which texts are compared first, so that few comparisons look at their bytes.
+//! The key prefixes of texts: numbers by which texts are compared first, so that few comparisons look at their bytes.
 ghost use Rattle.std.specs.Prelude.{◌≡◌, ◌<◌, ◌^◌, slice_index};
 ghost use Rattle.pdq_value.specs.KeyPrefixes.{AreBytes, LesserPrefixesAreLesserTexts, text_prefix};
 
-/// How many bytes a prefix has.
+/// How many bytes a key prefix has.
 const PREFIX_LENGTH: usize = 15;
 
 /// The byte at a place; 0 past the end.
@@ -25,7 +25,7 @@ pub fn text_prefix(bytes: &[u8]) -> u128
     prefix
 }
 
-/// A text with a lesser prefix is the lesser one.
+/// A text with a lesser key prefix is the lesser one.
 pub fn lesser_prefixes_are_lesser_texts()
     ensures law { LesserPrefixesAreLesserTexts }
 {}
