@@ -60,13 +60,6 @@ abbrev AreUtf8 : List (List ℕ) → Type 0
 AreUtf8 [] = ⊤
 AreUtf8 (field ∷ fields) = (is_utf8 field ≡ true) × AreUtf8 fields
 
--- the first of some fields that are UTF-8, and those after it
-pub first_is_utf8 : (column : ℕ) (field : List ℕ) (fields : List (List ℕ)) → not_utf8_at column (field ∷ fields) ≡ None → is_utf8 field ≡ true
-first_is_utf8 column field fields none = (none_at _ _ column none).0
-
-pub others_are_utf8 : (column : ℕ) (field : List ℕ) (fields : List (List ℕ)) → not_utf8_at column (field ∷ fields) ≡ None → not_utf8_at (column + 1) fields ≡ None
-others_are_utf8 column field fields none = (none_at _ _ column none).1
-
 none_at : (b : Bool) (n : Option ℕ) (column : ℕ) → cond b n (Some column) ≡ None → (b ≡ true) × (n ≡ None)
 none_at true n column e = (refl, e)
 none_at false n column e = absurd (grind (arith, e))
