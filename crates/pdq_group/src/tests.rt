@@ -50,6 +50,7 @@ fn take_all<const N: usize>(
 ) -> Result<(), ExecFault>
     requires width { grouper.old.table.keys + length grouper.old.table.folds ≡ N }
     requires few { grouper.old.rows + length rows.now ≤ 20000000 }
+    ensures frames { grouper.new.table.frames ≡ grouper.old.table.frames }
     ensures keys { grouper.new.table.keys ≡ grouper.old.table.keys }
     ensures folds { grouper.new.table.folds ≡ grouper.old.table.folds }
 {
@@ -60,7 +61,7 @@ fn take_all<const N: usize>(
 }
 
 /// Ends a grouper under a count of its passes.
-fn ended<L: Ledger>(
+fn counted<L: Ledger>(
     grouper: Grouper<SureSpill>,
     out: &mut Words,
     blank: Blank,
@@ -73,6 +74,17 @@ fn ended<L: Ledger>(
 {
     let mut steps = Steps::<L>::new(blank);
     grouper.end(out, &mut steps)
+}
+
+/// Ends a grouper.
+fn ended(
+    grouper: Grouper<SureSpill>,
+    out: &mut Words,
+) -> (Bench<SureSpill>, Result<Folded, ExecFault>)
+    requires out { out.old.width ≡ grouper.table.keys + words_of_folds grouper.table.folds }
+    ensures frames { result.0.region.frames ≡ grouper.table.frames }
+{
+    counted::<Brand>(grouper, out, Blank::new(1))
 }
 
 /// Groups rows by their first words, in a region of 2 frames. How many keys were kept there, and how many blocks were put.
@@ -100,7 +112,7 @@ fn grouped<const N: usize>(
     let (bench, kept) = match Grouper::new(alloc, shape, bench) {
         Ok(mut grouper) => {
             assert_eq!(rt; take_all(&mut grouper, rows), Ok(()));
-            let (bench, folded) = ended::<Brand>(grouper, out, Blank::new(1));
+            let (bench, folded) = ended(grouper, out);
             let folded = folded.expect(rt, "ended");
             assert_eq!(rt; folded.frames(), 2);
             assert_eq!(rt; folded.rows(), rows.len() as u64);

@@ -15,10 +15,10 @@ mod tables_tests;
 mod tests;
 mod words;
 
-use pdq_edge::{Folder, Reading, SureSpill, Writing};
+use pdq_base::Memory;
+use pdq_edge::{FileSpill, Folder, Reading, Writing};
 pub use run::run;
-use std::alloc::{AllocError, Global};
-use std::path::PathBuf;
+use std::path::{Path, PathBuf};
 use std::process::ExitCode;
 use std::{env, io};
 
@@ -40,13 +40,15 @@ fn words_given(rt: &HostRuntime) -> io::Result<Vec<String>> {
     Ok(words)
 }
 
-/// The stores for blocks that overflow.
-fn stores_made(alloc: Global) -> Result<Vec<SureSpill>, AllocError>
+/// The stores for blocks that overflow, each in a file of its own in the working folder.
+fn stores_made(rt: HostRuntime) -> Result<Vec<FileSpill<HostRuntime>>, Memory>
     ensures count { IfOk result (λ stores. vec_len stores ≡ 48) }
 {
-    let mut stores = Vec::with_capacity(alloc, STORES)?;
+    let mut stores = Vec::with_capacity(rt.alloc(), STORES).map_err(|_| Memory)?;
+    let mut counter = 0;
     for _ in 0..STORES {
-        stores.push(SureSpill::new(alloc))?;
+        let store = FileSpill::new(rt.alloc(), rt, Path::new(""), &mut counter)?;
+        stores.push(store).map_err(|_| Memory)?;
     }
     Ok(stores)
 }
@@ -56,7 +58,7 @@ fn main(rt: HostRuntime) -> ExitCode {
     let Ok(words) = words_given(&rt) else {
         return ExitCode::from(NO_WORDS);
     };
-    let Ok(mut stores) = stores_made(alloc) else {
+    let Ok(mut stores) = stores_made(rt) else {
         return ExitCode::from(NO_MEMORY);
     };
     let mut files = Folder::new(&rt, PathBuf::new(alloc));
