@@ -1,5 +1,6 @@
 //! Questions on the tables of a schema file, from words and files to bytes and status.
-use crate::{run, stores_made};
+use crate::run;
+use crate::tests::stores_in_memory;
 use pdq_edge::{MemFiles, MemSink, MemSource, NamedFile};
 use std::alloc::Global;
 use std::test::Fail;
@@ -39,7 +40,7 @@ fn ask<R: Threads + Sync>(
     for (name, text) in files {
         those.push(named(alloc, name, text)?)?;
     }
-    let mut stores = stores_made(alloc)?;
+    let mut stores = stores_in_memory(alloc)?;
     let mut files = MemFiles::new(those, Vec::new(alloc));
     let mut source = MemSource::with_most(Vec::new(alloc), vec![in alloc; 0]?, 1);
     let mut sink = MemSink::new(alloc, room, Vec::new(alloc)).map_err(|_| "memory")?;

@@ -1,7 +1,9 @@
 //! The worked examples, from words and bytes to bytes and status.
-use crate::{run, stores_made};
-use pdq_edge::{MemSink, MemSource, SureFiles};
-use std::alloc::Global;
+ghost use Rattle.std.specs.Prelude.{◌≡◌, IfOk, vec_len};
+
+use crate::{STORES, run};
+use pdq_edge::{MemSink, MemSource, SureFiles, SureSpill};
+use std::alloc::{AllocError, Global};
 use std::test::Fail;
 use std::thread::Threads;
 
@@ -9,6 +11,17 @@ const USUAL: &str = "script 4000 10 10 100 0";
 
 /// The most bytes that a run here writes.
 const ROOM: usize = 200_000;
+
+/// The stores that a run is handed, in memory.
+pub(crate) fn stores_in_memory(alloc: Global) -> Result<Vec<SureSpill>, AllocError>
+    ensures count { IfOk result (λ stores. vec_len stores ≡ 48) }
+{
+    let mut stores = Vec::with_capacity(alloc, STORES)?;
+    for _ in 0..STORES {
+        stores.push(SureSpill::new(alloc))?;
+    }
+    Ok(stores)
+}
 
 /// A run over memory: what it wrote, and its status.
 #[derive(Drop)]
@@ -56,7 +69,7 @@ fn run_words<R: Threads + Sync>(
     read_fails: &[u64],
     room: usize,
 ) -> Result<Ran, Fail> {
-    let mut stores = stores_made(alloc)?;
+    let mut stores = stores_in_memory(alloc)?;
     let mut files = SureFiles::new(Vec::new(alloc));
     let mut source = MemSource::with_most(bytes, read_fails.to_vec(alloc)?, most.max(1));
     let mut sink = MemSink::new(alloc, room, Vec::new(alloc)).map_err(|_| "memory")?;
