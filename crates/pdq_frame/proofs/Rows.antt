@@ -9,7 +9,8 @@ use Rattle.std.proofs.lemmas.List.{append_assoc, length-set, length-take, take_a
 use Rattle.std.proofs.lemmas.List.FromFn.{length-map-range_with_len, get_or-map-range_with_len, map-range_with_len_more}
 use Rattle.std.proofs.lemmas.Bool.{lt-ltb, le-ltb}
 use Rattle.std.proofs.lemmas.Option.{slice_get-get_or, get_or_from_slice_get}
-use Rattle.pdq_frame.specs.Frames.{placed}
+use Rattle.pdq_frame.specs.Frames.{placed, overwritten}
+use Rattle.pdq_frame.proofs.Stocks.{overwritten_placed}
 use Rattle.pdq_frame.specs.Regions.{Row, rows_per_frame, row_at, head_at, rows_of, heads_of, link_of, word_of, with_row, with_words, with_head, with_child, RegionView, IsRegion, IsLinked, AreLater, HasSameShape, cleared, Children, no_children, child_on, with_side, half_of, child_of, word_of_children, children_of, children_in, all_children, no_row, words_at, link_at, child_at}
 
 -- a written frame, read again
@@ -449,6 +450,16 @@ module _ (h w p n : ℕ) (fs : List (List ℤ)) (k : IsRegion h w p n fs) where
 
   pub head_is : (b : ℕ) (frame : List ℤ) (last : ℤ) → b < 512 * h → frame ≡ get_or fs (b / 512) [] → last ≡ get_or frame (b % 512) (pos 0) → slice_get (heads_of h fs) b ≡ Some (link_of last)
   head_is b frame last l e g = rw (g, e) (slice_get-get_or (heads_of h fs) b (head_at fs b) (omega (arith, l, length-heads_of h fs)) ∙ ap (λ (r : Option ℕ). let o : Option (Option ℕ) = Some r in o) (get_or-heads_of h fs b (head_at fs b) l))
+
+  -- what replaces the words of a row writes the word behind them again
+  pub overwritten_row : (s : ℕ) (row : List ℤ) (after : List (List ℤ)) → length row ≡ w → length (get_or fs (h + s / p) []) ≡ 512
+      → after ≡ set fs (h + s / p) (overwritten (get_or fs (h + s / p) []) ((s % p) * (w + 1)) row)
+      → after ≡ set fs (h + s / p) (placed (get_or fs (h + s / p) []) ((s % p) * (w + 1)) row (get_or (get_or fs (h + s / p) []) ((s % p) * (w + 1) + w) (pos 0)))
+  overwritten_row s row after wide long a =
+      let frame : List ℤ = get_or fs (h + s / p) [] in
+      let at : ℕ = (s % p) * (w + 1) in
+      let end : at + w < 512 = ends_within w p (rw k.per_frame (rows_fit w)) some_rows s in
+      a ∙ ap (λ (words : List ℤ). set fs (h + s / p) words) (overwritten_placed frame at row (pos 0) (omega arith) ∙ ap (λ (m : ℕ). placed frame at row (get_or frame (at + m) (pos 0))) wide)
 
   module _ (row : List ℤ) (z : ℤ) (after : List (List ℤ)) (wide : length row ≡ w) where
     pub put_is : (to : Option ℕ) → z ≡ word_of to → IfSome to (λ (s : ℕ). s < n) → n < (length fs - h) * p → length (get_or fs (h + n / p) []) ≡ 512

@@ -198,8 +198,7 @@ impl Region {
     {
         let frame = (self.heads + slot.number / self.rows_per_frame) as usize;
         let at = ((slot.number % self.rows_per_frame) * (self.width + 1)) as usize;
-        let last = self.stock.frame(frame)[at + self.width as usize];
-        self.stock.store(frame, at, row, last);
+        self.stock.overwrite(frame, at, row);
     }
 
     /// The row that was put at this place in order, counted from 0 since `reset`; None where fewer stand.
