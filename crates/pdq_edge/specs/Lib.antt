@@ -6,3 +6,6 @@ pub mod NamedFiles
 pub mod Standard
 pub mod Digests
 pub mod Stops
+pub mod Callers
+pub mod Jobs
+pub mod Serving
