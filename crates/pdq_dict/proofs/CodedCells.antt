@@ -1,6 +1,5 @@
 -- Words read back give what they stand for, and compare as it does.
-use Rattle.std.proofs.Common.{All, zero, suc, ◌≡◌, ℕ, ◌<◌, ◌^◌, List, [], ◌∷◌, ◌++◌, Bool, true, false, cond, refl, sym, ap, ap₂, ◌∙◌, subst, arith, length, get_or, ℤ, pos, negsuc, nat_abs, Option, Some, None, unwrap_or, int_cmp, nat_cmp, is_eq, flat_map, Contains}
-use Rattle.std.specs.List.{slice_get}
+use Rattle.std.proofs.Common.{zero, suc, ◌≡◌, ℕ, ◌<◌, ◌^◌, List, [], ◌∷◌, ◌++◌, cond, refl, sym, ap, ap₂, ◌∙◌, subst, arith, length, get_or, ℤ, pos, negsuc, nat_abs, Some, unwrap_or, int_cmp, nat_cmp, is_eq, flat_map, Contains}
 use Rattle.std.specs.Ordering.{ordering_then}
 use Rattle.std.specs.declared.cmp.Ordering.{Ordering}
 use Rattle.std.specs.declared.cmp.Ordering.TheVariants.{Less, Equal, Greater}
@@ -10,18 +9,14 @@ use Rattle.std.proofs.lemmas.Cmp.{tied_itself, nat_cmp_total}
 use Rattle.std.proofs.lemmas.Bool.Decides.{nat_tests}
 use Rattle.std.proofs.lemmas.List.Elements.{Contains-append_left, Contains-append_right, Contains-get_or}
 use Rattle.std.proofs.lemmas.Option.{slice_get-get_or}
-use Rattle.pdq_value.specs.declared.cells.Cell.{Cell}
 use Rattle.pdq_value.specs.declared.cells.Cell.TheVariants as cell
-use Rattle.pdq_value.specs.declared.shapes.Kind.{Kind}
 use Rattle.pdq_value.specs.declared.shapes.Kind.TheVariants as kind
 use Rattle.pdq_value.specs.declared.shapes.Value.{Value}
 use Rattle.pdq_value.specs.declared.shapes.Value.TheVariants as value
-use Rattle.pdq_value.specs.Cells.{cell_cmp, cell_of}
-use Rattle.pdq_value.specs.Tables.{IsValueOf, TableView}
-use Rattle.pdq_dict.specs.Texts.{text_cmp}
+use Rattle.pdq_value.specs.Cells.{cell_cmp}
 use Rattle.pdq_dict.specs.Dictionary.{code_of, dictionary_of, texts_of, texts_of_row, texts_of_table, texts_of_value}
-use Rattle.pdq_dict.specs.Coding.{HasCode, IsCoded, cell_of_word, is_null, null_word, value_of_word, word_of, word_of_value}
-use Rattle.pdq_dict.specs.CodingLaws.{CellsAreReadBack, EqualWordsAreEqualCells, HasWordOfCell, ValuesAreReadBack, ValuesHaveWordsOfCells, ValuesOfTablesHaveCodes, WordsCompareAsCells}
+use Rattle.pdq_dict.specs.Coding.{HasCode, cell_of_word, is_null, null_word}
+use Rattle.pdq_dict.specs.CodingLaws.{CellsAreReadBack, EqualWordsAreEqualCells, ValuesAreReadBack, ValuesHaveWordsOfCells, ValuesOfTablesHaveCodes, WordsCompareAsCells}
 use Rattle.pdq_dict.proofs.Codes.{at_code, code_of-slice_get, codes_compare_as_texts}
 use Rattle.pdq_dict.proofs.Dictionaries.{dictionaries_hold_the_texts, dictionaries_rise}
 

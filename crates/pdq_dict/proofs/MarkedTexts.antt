@@ -1,5 +1,5 @@
 -- Texts beside their key prefixes are ordered as the texts are.
-use Rattle.std.proofs.Common.{◌≡◌, ℕ, ap₂, ◌∙◌, nat_cmp}
+use Rattle.std.proofs.Common.{◌≡◌, ap₂, ◌∙◌, nat_cmp}
 use Rattle.std.specs.Cmp.{IsTotalOrder}
 use Rattle.std.specs.Ordering.{ordering_then}
 use Rattle.std.proofs.lemmas.Cmp.{nat_cmp_total, nat_list_cmp_total, on_total, then_total}

@@ -1,4 +1,4 @@
-use Rattle.std.proofs.Common.{◌≡◌, ◌<◌, ◌+◌, ◌∙◌, length, arith, ap}
+use Rattle.std.proofs.Common.{◌<◌, ◌∙◌, length, arith}
 use Rattle.std.proofs.lemmas.List.{length-set}
 use Rattle.pdq_dict.proofs.Numbered.{codes_more, number_below}
 use Rattle.pdq_dict.proofs.text_sets.places_of.Goals as goal

@@ -1,6 +1,5 @@
-use Rattle.std.proofs.Common.{◌≡◌, ◌≤◌, true, false, [], ◌∷◌, ◌++◌, map, sym, ap, ap₂, subst, ◌∙◌, is_some, All, nat_eq, ℕ, length, length-append, arith, List, Some, refl, position}
+use Rattle.std.proofs.Common.{◌≡◌, true, false, [], ◌∷◌, ◌++◌, map, sym, ap, ap₂, subst, ◌∙◌, is_some, nat_eq, length, length-append, arith, Some, position}
 use Rattle.std.specs.Cmp.Lexicographic.{pointwise}
-use Rattle.std.specs.Global.{Vec}
 use Rattle.std.specs.Map.{keys_of}
 use Rattle.std.specs.Vec.{vec_items}
 use Rattle.std.proofs.lemmas.List.{length-map, map-append}

@@ -1,4 +1,4 @@
-use Rattle.std.proofs.Common.{◌≡◌, ◌≤◌, ◌∙◌, All, List, ℕ, IsPermutation, ap, arith, length, map, subst, sym}
+use Rattle.std.proofs.Common.{◌∙◌, All, List, ℕ, IsPermutation, ap, arith, length, map, subst, sym}
 use Rattle.std.specs.Map.{keys_of}
 use Rattle.std.specs.Vec.{vec_items}
 use Rattle.std.proofs.lemmas.List.{length-map}

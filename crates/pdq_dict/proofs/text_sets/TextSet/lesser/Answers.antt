@@ -1,5 +1,4 @@
 use Rattle.std.proofs.Common.{◌≡◌, List, map, ap, count_by, rules, subst, sym, ◌∙◌, ℕ}
-use Rattle.std.specs.Global.{Vec}
 use Rattle.std.specs.Ordering.{is_lt}
 use Rattle.std.specs.Vec.{vec_items}
 use Rattle.std.proofs.lemmas.Fn.{always_returns_same}
