@@ -1,17 +1,17 @@
 -- What a dictionary holds, and that a rising list of the texts is the dictionary.
-use Rattle.std.proofs.Common.{◌≡◌, ℕ, Bool, true, false, cond, ◌||◌, List, [], ◌∷◌, refl, sym, ap, ◌∙◌, IsPermutation, fold, ◌≤◌, arith}
+use Rattle.std.proofs.Common.{◌≡◌, ℕ, Bool, true, false, cond, ◌||◌, List, [], ◌∷◌, refl, sym, ap, ◌∙◌, IsPermutation, fold}
 use Rattle.std.specs.List.{dedup, dedup_from}
 use Rattle.std.proofs.lemmas.List.Kept.{IsStrictlySortedBy-dedup}
-use Rattle.std.proofs.lemmas.List.Sorted.{length_permutation, list_any-IsPermutation}
+use Rattle.std.proofs.lemmas.List.Sorted.{list_any-IsPermutation}
 use Rattle.std.proofs.lemmas.Map.Views.{Contains-from_any, list_any-from_Contains}
 use Rattle.pdq_base.specs.Sorting.{in_order}
 use Rattle.pdq_base.proofs.InOrder.{in_order-IsPermutation, in_order-IsSorted}
 use Rattle.pdq_value.specs.Tables.{TableView}
 use Rattle.pdq_dict.specs.Texts.{is_text, noted, text_cmp}
-use Rattle.pdq_dict.specs.Dictionary.{IsDictionary, cell_limit, cells_in, dictionary_of, texts_of}
+use Rattle.pdq_dict.specs.Dictionary.{dictionary_of, texts_of}
 use Rattle.pdq_dict.specs.Laws.{DictionariesHoldTheTexts, DictionariesRise}
 use Rattle.pdq_dict.proofs.TextOrder.{is_text-IsEquivalence, same_text, text_cmp-IsLinearOrder}
-use Rattle.pdq_dict.proofs.Noting.{has, has-fold_noted, length-fold_noted, length-texts_of}
+use Rattle.pdq_dict.proofs.Noting.{has, has-fold_noted}
 use Rattle.pdq_dict.proofs.Rising.{Rises, rising-unique}
 
 pub dictionaries_rise : DictionariesRise
@@ -48,7 +48,3 @@ dictionaries_hold_the_texts tables t = (
 pub dictionary_of-from_noted : (tables : List TableView) (ys : List (List ℕ)) → Rises ys → IsPermutation (fold noted [] (texts_of tables)) ys → ys ≡ dictionary_of tables
 dictionary_of-from_noted tables ys h p = rising-unique ys (dictionary_of tables) h (dictionaries_rise tables)
     (λ t. sym (list_any-IsPermutation (is_text t) (fold noted [] (texts_of tables)) ys p) ∙ has-fold_noted [] (texts_of tables) t ∙ sym (has-dictionary_of tables t))
-
--- and are a dictionary, where there are few cells
-pub IsDictionary-from_noted : (tables : List TableView) (ys : List (List ℕ)) → cells_in tables ≤ cell_limit → Rises ys → IsPermutation (fold noted [] (texts_of tables)) ys → IsDictionary ys
-IsDictionary-from_noted tables ys few h p = record { rising = h; few = omega (arith, few, length_permutation (fold noted [] (texts_of tables)) ys p, length-fold_noted [] (texts_of tables), length-texts_of tables) }

@@ -60,17 +60,17 @@ module _ {K : Type 0} (f : K → List ℕ) where
       subst (λ u. is_lt (text_cmp u t) ≡ true) a (rising-IsPartitionedBy (map f ks) t h i j [] p (omega (arith, q, length-map ks f)) (subst (λ u. is_lt (text_cmp u t) ≡ true) (sym b) e))
 
 -- the texts of entries are those of their keys
-pub texts_of_keys : (es : List (Vec ℕ × ℕ)) → map (λ (e : Vec ℕ × ℕ). vec_items e.0) es ≡ map vec_items (keys_of es)
+pub texts_of_keys : {V : Type 0} (es : List (Vec ℕ × V)) → map (λ (e : Vec ℕ × V). vec_items e.0) es ≡ map vec_items (keys_of es)
 texts_of_keys [] = refl
 texts_of_keys (e ∷ es) = ap (λ l. vec_items e.0 ∷ l) (texts_of_keys es)
 
-pub any-entries : (t : List ℕ) (es : List (Vec ℕ × ℕ)) → is_some (lookup (λ k. pointwise nat_eq t (vec_items k)) es) ≡ has (map vec_items (keys_of es)) t
+pub any-entries : {V : Type 0} (t : List ℕ) (es : List (Vec ℕ × V)) → is_some (lookup (λ k. pointwise nat_eq t (vec_items k)) es) ≡ has (map vec_items (keys_of es)) t
 any-entries t es = is_some-lookup (λ k. pointwise nat_eq t (vec_items k)) es ∙ any-keys vec_items t (keys_of es)
 
-pub text_at : (es : List (Vec ℕ × ℕ)) (i : ℕ) (e : Vec ℕ × ℕ) → slice_get es i ≡ Some e → slice_get (map vec_items (keys_of es)) i ≡ Some (vec_items e.0)
-text_at [] i e h = absurd (true≢false (sym (ap is_some h)))
-text_at (d ∷ es) zero e h = ap (option_map (λ (x : Vec ℕ × ℕ). vec_items x.0)) h
-text_at (d ∷ es) (suc i) e h = text_at es i e h
+pub text_at : {V : Type 0} (es : List (Vec ℕ × V)) (i : ℕ) (e : Vec ℕ × V) → slice_get es i ≡ Some e → slice_get (map vec_items (keys_of es)) i ≡ Some (vec_items e.0)
+text_at {V} [] i e h = absurd (true≢false (sym (ap is_some h)))
+text_at {V} (d ∷ es) zero e h = ap (option_map (λ (x : Vec ℕ × V). vec_items x.0)) h
+text_at {V} (d ∷ es) (suc i) e h = text_at es i e h
 
 pub none_of : {X : Type 0} (o : Option X) → is_some o ≡ false → o ≡ None
 none_of None e = refl

@@ -1,7 +1,9 @@
 pub mod TextOrder
-pub mod PrefixedTexts
+pub mod MarkedTexts
 pub mod Noting
 pub mod Rising
 pub mod Keys
 pub mod Dictionaries
 pub mod Codes
+pub mod CodedCells
+pub mod Numbered

@@ -81,6 +81,10 @@ pub fold_noted_more : {X : Type 0} (f : X → List (List ℕ)) (a : List (List �
 fold_noted_more f a xs i d h =
     ap (λ l. fold noted a (flat_map f l)) (take_more xs i d h) ∙ ap (fold noted a) (flat_map-append f (take i xs) (get_or xs i d ∷ []) ∙ ap (λ l. flat_map f (take i xs) ++ l) (append-nil (f (get_or xs i d)))) ∙ fold-append noted a (flat_map f (take i xs)) (f (get_or xs i d))
 
+-- one more element behind, whose texts are noted
+pub fold_noted_push : {X : Type 0} (f : X → List (List ℕ)) (a : List (List ℕ)) (xs : List X) (x : X) → fold noted a (flat_map f (xs ++ x ∷ [])) ≡ fold noted (fold noted a (flat_map f xs)) (f x)
+fold_noted_push f a xs x = ap (fold noted a) (flat_map-append f xs (x ∷ []) ∙ ap (λ l. flat_map f xs ++ l) (append-nil (f x))) ∙ fold-append noted a (flat_map f xs) (f x)
+
 -- all elements, each seen by v
 pub fold_noted_all : {X Y : Type 0} (f : Y → List (List ℕ)) (v : X → Y) (a : List (List ℕ)) (xs : List X) (i : ℕ) → length xs ≤ i → fold noted a (flat_map (λ x. f (v x)) (take i xs)) ≡ fold noted a (flat_map f (map v xs))
 fold_noted_all f v a xs i h = ap (λ l. fold noted a (flat_map (λ x. f (v x)) l)) (take_all i xs h) ∙ ap (fold noted a) (sym (flat_map-map f v xs))

@@ -1,5 +1,5 @@
 -- The dictionary of the texts of tables, and the codes that it gives.
-use Rattle.std.specs.Prelude.{ℕ, ◌≤◌, List, [], ◌∷◌, Option, count_by, length, position, sum_by}
+use Rattle.std.specs.Prelude.{ℕ, ◌≤◌, List, [], ◌∷◌, Option, All, count_by, length, position, slice_get, slice_index, sum_by, ◌≡◌, ◌<◌}
 use Rattle.std.specs.List.{dedup, flat_map}
 use Rattle.std.specs.List.Sorted.{IsStrictlySortedBy}
 use Rattle.std.specs.Ordering.{is_lt}
@@ -7,7 +7,7 @@ use Rattle.pdq_base.specs.Sorting.{in_order}
 use Rattle.pdq_value.specs.declared.shapes.Value.{Value}
 use Rattle.pdq_value.specs.declared.shapes.Value.TheVariants.{Null, Number, Words}
 use Rattle.pdq_value.specs.Tables.{TableView}
-use Rattle.pdq_dict.specs.Texts.{is_text, text_cmp}
+use Rattle.pdq_dict.specs.Texts.{IsUtf8Text, is_text, text_cmp}
 
 -- how many values the rows have
 abbrev pub cells_in : List TableView → ℕ
@@ -44,7 +44,13 @@ code_of dictionary text = position (is_text text) dictionary
 abbrev pub place_of : List (List ℕ) → List ℕ → ℕ
 place_of dictionary text = count_by (λ t. is_lt (text_cmp t text)) dictionary
 
--- what a dictionary always is: each text is less than those after it, and there are no more texts than cells may be
+-- for each number of a note the code of its text
+pub record AreCodesOf (notes dictionary : List (List ℕ)) (codes : List ℕ) : Type 0 where
+  pub count : length codes ≡ length notes
+  pub each : (n : ℕ) → n < length notes → slice_get dictionary (slice_index codes n) ≡ slice_get notes n
+
+-- what a dictionary always is: each text is less than those after it and UTF-8, and there are no more texts than cells may be
 pub record IsDictionary (texts : List (List ℕ)) : Type 0 where
   pub rising : IsStrictlySortedBy text_cmp texts
   pub few : length texts ≤ cell_limit
+  pub utf8 : All IsUtf8Text texts

@@ -1,10 +1,11 @@
 //! The dictionary of texts.
-ghost use Rattle.std.specs.Prelude.{◌≡◌, ◌<◌, ◌≤◌, Contains, IfNone, IfOk, IfSome, length, slice_get};
-ghost use Rattle.pdq_value.specs.Tables.{tables_of};
-ghost use Rattle.pdq_dict.specs.Dictionary.{cell_limit, cells_in, code_of, dictionary_of, place_of};
+ghost use Rattle.std.specs.Prelude.{◌≡◌, ◌<◌, ◌≤◌, Contains, [], IfNone, IfOk, IfSome, List, fold, length, slice_get, slice_index_or};
+ghost use Rattle.pdq_value.specs.Tables.{TableView, tables_of};
+ghost use Rattle.pdq_dict.specs.Dictionary.{AreCodesOf, cell_limit, cells_in, code_of, dictionary_of, place_of, texts_of};
+ghost use Rattle.pdq_dict.specs.Texts.{IsUtf8Text, noted};
 
 use crate::gathering::note_table;
-use crate::text_sets::TextSet;
+use crate::text_sets::{Notes, TextSet};
 use pdq_base::Memory;
 use pdq_value::Db;
 use std::alloc::Global;
@@ -28,6 +29,20 @@ impl Model for Dict {
     ghost invariant = { λ d. IsDictionary d.texts };
 }
 
+impl Notes {
+    /// The dictionary of the texts, and for each number the code of its text.
+    ///
+    /// # Errors
+    /// `Memory` where it is wanting.
+    pub fn into_dict(self, alloc: Global) -> Result<(Dict, Vec<u32>), Memory>
+        ensures dict { IfOk result (λ r. (tables : List TableView) → self ≡ fold noted [] (texts_of tables) → r.0 ≡ dictionary_of tables) }
+        ensures codes { IfOk result (λ r. AreCodesOf self r.0 r.1.items) }
+    {
+        let (texts, codes) = self.sort(alloc)?;
+        Ok((Dict { texts }, codes))
+    }
+}
+
 impl Dict {
     /// The dictionary of a database, which has at most 32,000,000 cells.
     ///
@@ -37,12 +52,12 @@ impl Dict {
         requires few { cells_in (tables_of db.now) ≤ cell_limit }
         ensures value { IfOk result (λ d. d ≡ dictionary_of (tables_of db.now)) }
     {
-        let mut texts = TextSet::new(alloc);
+        let mut notes = Notes::new(alloc);
         for table in &db.tables {
-            note_table(alloc, table, &mut texts)?;
+            note_table(alloc, table, &mut notes)?;
         }
-        texts.sort()?;
-        Ok(Dict { texts })
+        let (dict, _) = notes.into_dict(alloc)?;
+        Ok(dict)
     }
 
     /// The code of a text; `None` where the text is not there.
@@ -66,8 +81,17 @@ impl Dict {
     pub fn text(&self, code: u32) -> &[u8]
         requires there { code < length self.now }
         ensures text { slice_get self.now code ≡ Some result.now }
+        ensures utf8 { IsUtf8Text result.now }
         ensures inverse { code_of self.now result.now ≡ Some code }
     {
         self.texts.text(code as usize)
+    }
+
+    /// The text of a code, or the empty text where there is no such code.
+    pub(crate) fn text_or_empty(&self, code: u64) -> &[u8]
+        ensures text { result.now ≡ slice_index_or self.now code [] }
+        ensures utf8 { IsUtf8Text result.now }
+    {
+        self.texts.text_or_empty(code as usize)
     }
 }

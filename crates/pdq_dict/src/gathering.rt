@@ -4,21 +4,24 @@ ghost use Rattle.pdq_value.specs.Tables.{table_of};
 ghost use Rattle.pdq_dict.specs.Dictionary.{texts_of_row, texts_of_table, texts_of_value};
 ghost use Rattle.pdq_dict.specs.Texts.{noted};
 
-use crate::text_sets::TextSet;
+use crate::text_sets::Notes;
 use pdq_base::Memory;
 use pdq_value::{Row, Table, Value};
 use std::alloc::Global;
 
-fn note_value(alloc: Global, value: &Value, texts: &mut TextSet) -> Result<(), Memory>
+fn note_value(alloc: Global, value: &Value, texts: &mut Notes) -> Result<(), Memory>
     ensures noted { OnOk result (texts.new ≡ fold noted texts.old (texts_of_value value.now)) }
 {
     match value {
         Value::Null | Value::Number(_) => Ok(()),
-        Value::Words(text) => texts.note(alloc, text.bytes()),
+        Value::Words(text) => {
+            let _number = texts.note(alloc, text.bytes())?;
+            Ok(())
+        }
     }
 }
 
-fn note_row(alloc: Global, row: &Row, texts: &mut TextSet) -> Result<(), Memory>
+fn note_row(alloc: Global, row: &Row, texts: &mut Notes) -> Result<(), Memory>
     ensures noted { OnOk result (texts.new ≡ fold noted texts.old (texts_of_row row.now)) }
 {
     for value in row.values() {
@@ -31,7 +34,7 @@ fn note_row(alloc: Global, row: &Row, texts: &mut TextSet) -> Result<(), Memory>
 ///
 /// # Errors
 /// `Memory` where it is wanting.
-pub fn note_table(alloc: Global, table: &Table, texts: &mut TextSet) -> Result<(), Memory>
+pub fn note_table(alloc: Global, table: &Table, texts: &mut Notes) -> Result<(), Memory>
     ensures noted { OnOk result (texts.new ≡ fold noted texts.old (texts_of_table (table_of table.now))) }
 {
     for row in &table.rows {

@@ -6,4 +6,4 @@ use Rattle.pdq_dict.specs.Texts.{noted}
 use Rattle.pdq_dict.proofs.dictionary.Dict.of.Given as goal
 
 abbrev pub invariant-loop-table : goal.invariant-loop-table
-invariant-loop-table l = l.texts ≡ fold noted [] (flat_map (λ t. texts_of_table (table_of t)) (take l.table-index l.db.tables.items))
+invariant-loop-table l = l.notes ≡ fold noted [] (flat_map (λ t. texts_of_table (table_of t)) (take l.table-index l.db.tables.items))

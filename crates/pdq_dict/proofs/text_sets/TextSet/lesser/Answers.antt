@@ -1,17 +1,16 @@
 use Rattle.std.proofs.Common.{◌≡◌, List, map, ap, count_by, rules, subst, sym, ◌∙◌, ℕ}
-use Rattle.std.specs.Global.{Vec}
 use Rattle.std.specs.Ordering.{is_lt}
 use Rattle.std.specs.Vec.{vec_items}
 use Rattle.std.proofs.lemmas.Fn.{always_returns_same}
-use Rattle.pdq_dict.specs.Texts.{text_cmp}
+use Rattle.pdq_dict.specs.Texts.{Entry, text_cmp}
 use Rattle.pdq_dict.proofs.Keys.{count_by-IsPartitionPoint, count_by-map, partitioned-keys, texts_of_keys}
 use Rattle.pdq_dict.proofs.Rising.{Rises}
 use Rattle.pdq_dict.proofs.text_sets.TextSet.lesser.Goals as goal
 
 pub returns : goal.returns
 returns c =
-    let entries = c.self.inside.prefixes.entries in
-    let text : Vec ℕ × ℕ → List ℕ = λ e. vec_items e.0 in
+    let entries = c.self.inside.texts.entries in
+    let text : Entry → List ℕ = λ e. vec_items e.0 in
     let seen = texts_of_keys entries ∙ c.self.view_is in
     let rising : Rises (map text entries) = subst Rises (sym seen) c.requires.rising in
     let parted = partitioned-keys text c.args.text.now entries rising in
