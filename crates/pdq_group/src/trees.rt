@@ -4,7 +4,7 @@
 //! and at each row with another key it goes on to the left or the right child by the next bit of the hash. A new group becomes the
 //! child at which the walk for its key ends. With one frame of heads, however many groups there are, a walk is then as long as the logarithm
 //! of the groups under a head.
-ghost use Rattle.std.specs.Prelude.{◌≡◌, ℕ, List, ◌+◌, ◌<◌, ◌≤◌, length, take, Some, None, IfSome, slice_index_or, slice_set};
+ghost use Rattle.std.specs.Prelude.{◌≡◌, ℕ, List, ◌+◌, ◌<◌, ◌≤◌, length, take, Some, None, IfSome, slice_index_or, slice_set, IsTrue, ◌↔◌};
 ghost use Rattle.pdq_frame.specs.Regions.{Children, child_at, child_on, no_children};
 ghost use Rattle.pdq_group.specs.Trees.{further, side, rest, hash_of, bucket_of, AreTrees, Found, Grown, Reaches, words_in, key_at, Added};
 
@@ -44,6 +44,19 @@ fn hash_of(key: &[i64]) -> u64
     hash
 }
 
+/// Whether the first words of a row are a key.
+fn begins_with(row: &[i64], key: &[i64]) -> bool
+    requires wide { length key.now ≤ length row.now }
+    ensures same { IsTrue result ↔ (take (length key.now) row.now ≡ key.now) }
+{
+    for (i, word) in key.iter().enumerate() {
+        if row[i] != *word {
+            return false;
+        }
+    }
+    true
+}
+
 /// The group of a key, if there is one.
 pub(crate) fn find(region: &Region, heads: u32, key: &[i64]) -> Option<Slot>
     requires heads { length region.now.heads ≡ heads }
@@ -52,13 +65,12 @@ pub(crate) fn find(region: &Region, heads: u32, key: &[i64]) -> Option<Slot>
     requires trees { AreTrees (length key.now) region.now }
     ensures found { Found (length key.now) region.now key.now result }
 {
-    let keys = key.len();
     let hash = hash_of(key);
     let mut bits = further(heads, hash);
     let mut at = region.head(reduced(heads, hash));
     while let Some(slot) = at {
         let (words, next) = region.branch(slot, side(bits));
-        if &words[..keys] == key {
+        if begins_with(words, key) {
             return Some(slot);
         }
         at = next;

@@ -5,7 +5,6 @@ use Rattle.std.proofs.lemmas.Option.{get_or_from_slice_get}
 use Rattle.pdq_frame.specs.Regions.{RegionView, child_at}
 use Rattle.pdq_group.specs.Trees.{bucket_of, bits_of, further, side}
 use Rattle.pdq_spill.specs.Hashes.{reduced}
-use Rattle.pdq_group.proofs.Keys.{are_same, same_true}
 use Rattle.pdq_group.proofs.Reaching.{Walked, walk_start, walk_done, walk_on}
 use Rattle.pdq_group.proofs.trees.find.Goals as goal
 
@@ -17,13 +16,13 @@ loop-at-init c =
     let bits : c.further-bits.result ≡ bits_of (length r.heads) key = c.further-bits.ensures.value ∙ ap (λ n. further n c.hash_of-hash.result) (sym c.requires.heads) ∙ ap (further (length r.heads)) c.hash_of-hash.ensures.value in
     walk_start (length key) r key c.reduced.result c.further-bits.result c.head-at.result c.requires.trees c.head-at.ensures.stands b bits (get_or_from_slice_get r.heads c.reduced.result c.head-at.result None c.head-at.ensures.head)
 
-pub returns-then-eq : goal.returns-then-eq
-returns-then-eq c =
+pub returns-then-begins_with : goal.returns-then-begins_with
+returns-then-begins_with c =
     let r : RegionView = c.args.region.now in
     let n : ℕ = length c.args.key.now in
     let words : List ℤ = c.branch-next.result.0.now in
     let w : Walked n r c.args.key.now (Some c.in-Some.slot) c.loop-at.bits = subst (λ (at : Option ℕ). Walked n r c.args.key.now at c.loop-at.bits) c.in-Some.is c.loop-at.invariant in
-    let same : take n words ≡ c.args.key.now = are_same (take n words) c.args.key.now (sym c.eq.ensures ∙ c.if-eq.true) in
+    let same : take n words ≡ c.args.key.now = c.begins_with.ensures.same.0 c.if-begins_with.true in
     record { found = (w.stands, ap (take n) (sym c.branch-next.ensures.words) ∙ same) }
 
 pub loop-at-preserved : goal.loop-at-preserved
@@ -32,7 +31,7 @@ loop-at-preserved c =
     let n : ℕ = length c.args.key.now in
     let words : List ℤ = c.branch-next.result.0.now in
     let w : Walked n r c.args.key.now (Some c.in-Some.slot) c.loop-at.bits = subst (λ (at : Option ℕ). Walked n r c.args.key.now at c.loop-at.bits) c.in-Some.is c.loop-at.invariant in
-    let other : take n words ≢ c.args.key.now = λ e. true≢false (sym (same_true (take n words) c.args.key.now e) ∙ sym c.eq.ensures ∙ c.if-eq.false) in
+    let other : take n words ≢ c.args.key.now = λ e. true≢false (sym (c.begins_with.ensures.same.1 e) ∙ c.if-begins_with.false) in
     walk_on n r c.args.key.now c.loop-at.bits c.in-Some.slot words c.branch-next.result.1 c.rest-bits.result w c.branch-next.ensures.words (c.branch-next.ensures.child ∙ ap (child_at r c.in-Some.slot) c.side.ensures.value) c.rest-bits.ensures.value c.branch-next.ensures.later other
 
 pub returns : goal.returns
