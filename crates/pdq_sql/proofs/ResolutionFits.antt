@@ -3,7 +3,7 @@ use Rattle.std.proofs.Common.{◌≡◌, ◌≢◌, ℕ, suc, ◌+◌, ◌^◌, 
 use Rattle.std.specs.Prelude.{pos, neg_ℤ, not, ◌&&◌, ◌||◌, nat_abs, nat_lt, nat_le, slice_get, Contains, option_and_then}
 use Rattle.std.specs.List.{filter_map, list_any, position, prefix_len}
 use Rattle.std.specs.Option.{ok_or, option_or}
-use Rattle.std.specs.Str.{bytes_eq, is_utf8}
+use Rattle.std.specs.Str.{bytes_eq}
 use Rattle.std.proofs.lemmas.Bool.{eqb-true, eqb-false, true≢false}
 use Rattle.std.proofs.lemmas.Bool.Decides.{nat_tests}
 use Rattle.std.proofs.lemmas.Int.{ints}
@@ -14,6 +14,8 @@ use Rattle.std.proofs.lemmas.Option.{slice_get-get_or, slice_get_within, option_
 use Rattle.pdq_value.specs.declared.numbers.NumberFault.{NumberFault}
 use Rattle.pdq_value.specs.declared.shapes.Column.{Column}
 use Rattle.pdq_value.specs.declared.shapes.Kind.{Kind}
+use Rattle.pdq_value.specs.declared.shapes.Value.{Value}
+use Rattle.pdq_query.specs.declared.query.Filter.{Filter}
 use Rattle.pdq_value.specs.declared.shapes.Kind.TheVariants as kind
 use Rattle.pdq_value.specs.Numbers.{bad_place, magnitude_of, number_read, signed_magnitude, is_negative}
 use Rattle.pdq_value.specs.Tables.{IsKind, IsShape, IsValueOf, ShapeView}
@@ -47,6 +49,7 @@ use Rattle.pdq_sql.specs.declared.resolving.Condition.TheVariants.{Within, Betwe
 use Rattle.pdq_sql.specs.Asts.{AstView}
 use Rattle.pdq_sql.specs.Resolving.{IsJoinOfFour}
 use Rattle.pdq_sql.specs.Resolution.{Resolved, ◌>>=◌, Found, found, found_in, each, table_number, table_of, tables_of, column_named, column_in, dotted, columns_named, the_only, column_by, column_of, is_number, same_kind, number_column, any_column, form_of, item_of, items_of, number_value, literal_of, test_of, condition_of, conditions_of, filter_of, join_of, groups_of, is_plain_of, is_ungrouped, order_of, key_of, keys_of, named, resolution_of, is_count, first_count, first_ungrouped, first_untied, clusters_of, is_apart, fault_at, first_fault, unless}
+use Rattle.pdq_sql.specs.Resolving.{IsUtf8Condition, IsUtf8Filter, IsUtf8Value}
 use Rattle.pdq_sql.proofs.ResolutionTies.{length-clusters_of, tied}
 
 -- what was resolved meets P
@@ -266,12 +269,16 @@ value_small : (place : ℕ) (text : List ℕ) (s : ℕ) (r : Result ℤ NumberFa
 value_small place text s (Ok z) e = read_small_at text s z (bad_place s text) (nat_lt (magnitude_of s text) (10 ^ 18)) refl refl e
 value_small place text s (Err f) e = tt
 
-literal_sound : (place : ℕ) (k : Kind) (l : AstLiteral) → Holds (IsValueOf k) (literal_of place k l)
+-- a value of this kind, if its text is UTF-8
+abbrev MayBeOf : Kind → Value → Type 0
+MayBeOf k v = IsUtf8Value v → IsValueOf k v
+
+literal_sound : (place : ℕ) (k : Kind) (l : AstLiteral) → Holds (MayBeOf k) (literal_of place k l)
 unfolding literal_of
-literal_sound place (kind.Number s) (literal.Number text) = value_small place text s (number_read text s) refl
+literal_sound place (kind.Number s) (literal.Number text) = weaken (IsValueOf (kind.Number s)) (MayBeOf (kind.Number s)) (number_value place (number_read text s)) (value_small place text s (number_read text s) refl) (λ v h _. h)
 literal_sound place (kind.Number s) (literal.Words text) = tt
 literal_sound place kind.Words (literal.Number text) = tt
-literal_sound place kind.Words (literal.Words text) = either (IsValueOf kind.Words) (is_utf8 text) _ _ (λ e. e) (λ _. tt)
+literal_sound place kind.Words (literal.Words text) = λ e. e
 
 -- ---- the kind of a column that was found
 
@@ -287,8 +294,27 @@ column_kind shapes tables place c f small e = kind_of_found shapes tables f.0 f.
 
 -- ---- conditions
 
+-- a condition on one table that fits, if its text is UTF-8
+abbrev MayFit : List ShapeView → List ℕ → Filter → Type 0
+MayFit shapes tables (filter.Literal a test v) = (k : Kind) × HasKind shapes tables a k × MayBeOf k v
+MayFit shapes tables (filter.Columns a b) = (a.table ≡ b.table) × AreOfOneKind shapes tables a b
+
+does_fit : (shapes : List ShapeView) (tables : List ℕ) (f : Filter) → MayFit shapes tables f → IsUtf8Filter f → FilterFits shapes tables f
+does_fit shapes tables (filter.Literal a test v) h utf8 = (h.0, h.1, h.2 utf8)
+does_fit shapes tables (filter.Columns a b) h utf8 = h
+
+pub do_fit : (shapes : List ShapeView) (tables : List ℕ) (fs : List Filter) → All (MayFit shapes tables) fs → All IsUtf8Filter fs → All (FilterFits shapes tables) fs
+do_fit shapes tables [] h utf8 = All-nil (FilterFits shapes tables)
+do_fit shapes tables (f ∷ fs) h utf8 = All-cons (FilterFits shapes tables) f fs (does_fit shapes tables f (All-head (MayFit shapes tables) f fs h) (All-head IsUtf8Filter f fs utf8)) (do_fit shapes tables fs (All-tail (MayFit shapes tables) f fs h) (All-tail IsUtf8Filter f fs utf8))
+
+-- the conditions on one table of conditions whose texts are UTF-8
+pub utf8_filters : (cs : List Condition) → All IsUtf8Condition cs → All IsUtf8Filter (filter_map filter_of cs)
+utf8_filters [] h = All-nil IsUtf8Filter
+utf8_filters (Within f ∷ cs) h = All-cons IsUtf8Filter f _ (All-head IsUtf8Condition (Within f) cs h) (utf8_filters cs (All-tail IsUtf8Condition (Within f) cs h))
+utf8_filters (Between a b ∷ cs) h = utf8_filters cs (All-tail IsUtf8Condition (Between a b) cs h)
+
 abbrev ConditionFits : List ShapeView → List ℕ → Condition → Type 0
-ConditionFits shapes tables (Within f) = FilterFits shapes tables f
+ConditionFits shapes tables (Within f) = MayFit shapes tables f
 ConditionFits shapes tables (Between a b) = JoinFits shapes tables (a, b)
 
 same_kind_is : (k l : Kind) → same_kind k l ≡ true → k ≡ l
@@ -308,7 +334,7 @@ module _ (shapes : List ShapeView) (tables : List ℕ) where
   test_sound : (place : ℕ) (t : AstTest) → Holds (ConditionFits shapes tables) (test_of shapes tables place t)
   test_sound place (test.Literal c compare l) =
       then (IsFound shapes tables) _ (column_of shapes tables place c) _ (column_sound shapes tables place c) (λ f h.
-      then (IsValueOf f.1) _ (literal_of place f.1 l) _ (literal_sound place f.1 l) (λ v g. (f.1, h, g)))
+      then (MayBeOf f.1) _ (literal_of place f.1 l) _ (literal_sound place f.1 l) (λ v g. (f.1, h, g)))
   test_sound place (test.Columns c d) =
       then (IsFound shapes tables) _ (column_of shapes tables place c) _ (column_sound shapes tables place c) (λ f h.
       then (IsFound shapes tables) _ (column_of shapes tables place d) _ (column_sound shapes tables place d) (λ g k.
@@ -318,9 +344,9 @@ module _ (shapes : List ShapeView) (tables : List ℕ) where
   unfolding condition_of
   condition_sound c = test_sound c.place c.test
 
-  filters_fit : (cs : List Condition) → All (ConditionFits shapes tables) cs → All (FilterFits shapes tables) (filter_map filter_of cs)
-  filters_fit [] h = All-nil (FilterFits shapes tables)
-  filters_fit (Within f ∷ cs) h = All-cons (FilterFits shapes tables) f _ (All-head (ConditionFits shapes tables) (Within f) cs h) (filters_fit cs (All-tail (ConditionFits shapes tables) (Within f) cs h))
+  filters_fit : (cs : List Condition) → All (ConditionFits shapes tables) cs → All (MayFit shapes tables) (filter_map filter_of cs)
+  filters_fit [] h = All-nil (MayFit shapes tables)
+  filters_fit (Within f ∷ cs) h = All-cons (MayFit shapes tables) f _ (All-head (ConditionFits shapes tables) (Within f) cs h) (filters_fit cs (All-tail (ConditionFits shapes tables) (Within f) cs h))
   filters_fit (Between a b ∷ cs) h = filters_fit cs (All-tail (ConditionFits shapes tables) (Between a b) cs h)
 
   joins_fit : (cs : List Condition) → All (ConditionFits shapes tables) cs → All (JoinFits shapes tables) (filter_map join_of cs)
@@ -367,7 +393,7 @@ pub record IsNamedWell (shapes : List ShapeView) (ast : AstView) (q : QueryView)
   pub sixteen_conditions : length q.filters + length q.joins ≤ 16
   pub sixteen_groups : length q.groups ≤ 16
   pub sixteen_keys : length q.keys ≤ 16
-  pub filters : All (FilterFits shapes q.tables) q.filters
+  pub filters : All (MayFit shapes q.tables) q.filters
   pub joins : All (JoinFits shapes q.tables) q.joins
   pub items : All (ItemFits shapes q.tables) q.items
   pub groups : All (IsColumn shapes q.tables) q.groups
@@ -485,8 +511,8 @@ neither : (a b : Option SqlFault) → option_or a b ≡ None → (a ≡ None) ×
 neither None b e = (refl, e)
 neither (Some f) b e = absurd cc
 
-well_fits : (shapes : List ShapeView) (ast : AstView) (q : QueryView) → 1 ≤ length ast.items → 1 ≤ length ast.tables → IsNamedWell shapes ast q → first_fault ast q ≡ None → Fits shapes q
-well_fits shapes ast q some_item some_table h e =
+well_fits : (shapes : List ShapeView) (ast : AstView) (q : QueryView) → 1 ≤ length ast.items → 1 ≤ length ast.tables → IsNamedWell shapes ast q → All IsUtf8Filter q.filters → first_fault ast q ≡ None → Fits shapes q
+well_fits shapes ast q some_item some_table h utf8 e =
     let one = neither (fault_at CountOverJoin _ (first_count q)) _ e in
     let two = neither (fault_at NotGrouped _ (first_ungrouped q)) (fault_at NotJoined _ (first_untied q)) one.1 in
     let counted = no_fault CountOverJoin _ (first_count q) one.0 in
@@ -503,7 +529,7 @@ well_fits shapes ast q some_item some_table h e =
       sixteen_conditions = h.sixteen_conditions;
       sixteen_groups = h.sixteen_groups;
       sixteen_keys = h.sixteen_keys;
-      filters = h.filters;
+      filters = do_fit shapes q.tables q.filters h.filters utf8;
       joins = h.joins;
       items = h.items;
       groups = h.groups;
@@ -513,15 +539,19 @@ well_fits shapes ast q some_item some_table h e =
       tied = all_tied q (small_joins shapes ast q h) h.four_tables untied;
     }
 
-unless_sound : (shapes : List ShapeView) (q : QueryView) (o : Option SqlFault) → (o ≡ None → Fits shapes q) → Holds (Fits shapes) (unless o q)
+-- a query that fits, if its texts are UTF-8
+abbrev MayQueryFit : List ShapeView → QueryView → Type 0
+MayQueryFit shapes q = All IsUtf8Filter q.filters → Fits shapes q
+
+unless_sound : (shapes : List ShapeView) (q : QueryView) (o : Option SqlFault) → (o ≡ None → MayQueryFit shapes q) → Holds (MayQueryFit shapes) (unless o q)
 unless_sound shapes q None h = h refl
 unless_sound shapes q (Some e) h = tt
 
 -- what is resolved fits the shapes
-pub resolution-Fits : (shapes : List ShapeView) (ast : AstView) (q : QueryView) → 1 ≤ length ast.items → 1 ≤ length ast.tables → resolution_of shapes ast ≡ Ok q → Fits shapes q
+pub resolution-Fits : (shapes : List ShapeView) (ast : AstView) (q : QueryView) → 1 ≤ length ast.items → 1 ≤ length ast.tables → resolution_of shapes ast ≡ Ok q → All IsUtf8Filter q.filters → Fits shapes q
 unfolding resolution_of
-resolution-Fits shapes ast q some_item some_table e = holds_at (Fits shapes) (resolution_of shapes ast) q
-    (then (IsNamedWell shapes ast) (Fits shapes) (named shapes ast) _ (named_sound shapes ast) (λ r h. unless_sound shapes r (first_fault ast r) (well_fits shapes ast r some_item some_table h))) e
+resolution-Fits shapes ast q some_item some_table e = holds_at (MayQueryFit shapes) (resolution_of shapes ast) q
+    (then (IsNamedWell shapes ast) (MayQueryFit shapes) (named shapes ast) _ (named_sound shapes ast) (λ r h. unless_sound shapes r (first_fault ast r) (λ none utf8. well_fits shapes ast r some_item some_table h utf8 none))) e
 
 -- ---- what the code knows of parts that were resolved
 

@@ -2,7 +2,7 @@
 use Rattle.std.specs.Prelude.{ℕ, ◌+◌, ◌-◌, List, [], ◌∷◌, ◌++◌, Bool, true, false, not, ◌&&◌, ◌||◌, ◌==◌, nat_le, nat_lt, if◌then◌else◌, ℤ, Option, None, Some, Result, Ok, Err, length, map, take, position, slice_get, slice_index, option_and_then}
 use Rattle.std.specs.List.{filter_map, list_any}
 use Rattle.std.specs.Option.{ok_or, option_or}
-use Rattle.std.specs.Str.{bytes_eq, is_utf8}
+use Rattle.std.specs.Str.{bytes_eq}
 use Rattle.pdq_value.specs.declared.numbers.NumberFault.{NumberFault}
 use Rattle.pdq_value.specs.declared.shapes.Column.{Column}
 use Rattle.pdq_value.specs.declared.shapes.Kind.{Kind}
@@ -154,12 +154,12 @@ abbrev pub number_value : ℕ → Result ℤ NumberFault → Resolved Value
 number_value place (Ok z) = Ok (value.Number z)
 number_value place (Err e) = Err (fault KindsDiffer place)
 
--- A literal fits its column's kind: a number where it is read at the column's scale, a text in UTF-8 beside texts.
+-- A literal fits its column's kind: a number where it is read at the column's scale, a text beside texts.
 unfoldable pub literal_of : ℕ → Kind → AstLiteral → Resolved Value
 literal_of place (kind.Number s) (literal.Number text) = number_value place (number_read text s)
 literal_of place (kind.Number s) (literal.Words text) = Err (fault KindsDiffer place)
 literal_of place kind.Words (literal.Number text) = Err (fault KindsDiffer place)
-literal_of place kind.Words (literal.Words text) = if is_utf8 text then Ok (value.Words text) else Err (fault KindsDiffer place)
+literal_of place kind.Words (literal.Words text) = Ok (value.Words text)
 
 -- two equal columns are a filter within one table, and a join between two
 abbrev pub equal_columns : At → At → Condition

@@ -2,7 +2,7 @@
 ghost use Rattle.std.specs.Prelude.{◌≡◌, ◌≢◌, ◌+◌, ◌<◌, ◌≤◌, ◌==◌, Bool, List, Ok, Err, None, Some, All, AllPairs, IfErr, IfOk, IfSome, OnSome, is_some, length, map, position, slice_get, take, slice_index, ◌⊎◌};
 ghost use Rattle.std.specs.List.{filter_map, list_any};
 ghost use Rattle.std.specs.Option.{ok_or, option_copied};
-ghost use Rattle.std.specs.Str.{bytes_eq, is_utf8};
+ghost use Rattle.std.specs.Str.{bytes_eq};
 ghost use Rattle.pdq_value.specs.declared.shapes.Column.{Column};
 ghost use Rattle.pdq_value.specs.declared.shapes.TableShape.{TableShape};
 ghost use Rattle.pdq_value.specs.Numbers.{number_read};
@@ -13,7 +13,7 @@ ghost use Rattle.pdq_query.specs.Folds.{is_column, is_fold};
 ghost use Rattle.pdq_query.specs.Queries.{query_of};
 ghost use Rattle.pdq_sql.specs.Asts.{ast_of};
 ghost use Rattle.pdq_sql.specs.Resolution.{any_column, clusters_of, column_in, column_named, column_of, columns_named, condition_of, conditions_of, dotted, equal_columns, fault, filter_of, first_count, first_fault, first_ungrouped, first_untied, form_of, groups_of, is_count, is_number, is_plain_of, is_ungrouped, item_of, items_of, join_of, key_of, keys_of, literal_of, named, number_column, number_value, order_of, resolution_of, same_kind, table_number, table_of, tables_of, test_of, the_only};
-ghost use Rattle.pdq_sql.specs.Resolving.{Gives, no_memory};
+ghost use Rattle.pdq_sql.specs.Resolving.{Gives, IsUtf8Condition, IsUtf8Filter, IsUtf8Value, no_memory};
 ghost use Rattle.pdq_sql.specs.declared.resolving.Unresolved.TheVariants.{Fault, Memory};
 
 use crate::ast::{
@@ -22,7 +22,6 @@ use crate::ast::{
 };
 use crate::faults::{SqlFault, SqlWhy};
 use crate::resolving_checks::{first_fault, is_column};
-use pdq_base::is_utf8;
 use pdq_query::{At, Filter, Item, Key, Query};
 use pdq_value::{Column, Kind, Name, TableShape, Value, read_number};
 use std::alloc::{AllocError, AllocFailed, Global};
@@ -331,6 +330,7 @@ fn items(
 fn number(place: u32, scale: u32, text: &[u8]) -> Result<Value, Unresolved>
     requires scale { scale ≤ 6 }
     ensures value { Gives (λ v. v) result (number_value place (number_read text.now scale)) }
+    ensures utf8 { IfOk result IsUtf8Value }
 {
     if text.len() >= MOST_DIGITS {
         return Err(Unresolved::Memory);
@@ -346,6 +346,7 @@ fn number(place: u32, scale: u32, text: &[u8]) -> Result<Value, Unresolved>
 fn literal(alloc: Global, place: u32, kind: Kind, literal: &AstLiteral) -> Result<Value, Unresolved>
     requires kind { IsKind kind }
     ensures value { Gives (λ v. v) result (literal_of place kind literal.now) }
+    ensures utf8 { IfOk result IsUtf8Value }
 {
     let differs = Unresolved::Fault(fault(SqlWhy::KindsDiffer, place));
     match literal {
@@ -354,8 +355,8 @@ fn literal(alloc: Global, place: u32, kind: Kind, literal: &AstLiteral) -> Resul
             Kind::Words => Err(differs),
         },
         AstLiteral::Words(text) => match kind {
-            Kind::Words if is_utf8(text.bytes()) => Ok(Value::Words(text.copy(alloc)?)),
-            _ => Err(differs),
+            Kind::Number { scale: _ } => Err(differs),
+            Kind::Words => Ok(Value::Words(text.copy(alloc)?)),
         },
     }
 }
@@ -393,6 +394,7 @@ fn one_condition(
     requires from { length tables.now ≤ 4 }
     requires shapes { All IsShape (map shape_of shapes.now) }
     ensures value { Gives (λ c. c) result (condition_of (map shape_of shapes.now) tables.now part.now) }
+    ensures utf8 { IfOk result IsUtf8Condition }
 {
     let place = part.place;
     match &part.test {
@@ -422,6 +424,7 @@ fn conditions(
     requires from { length tables.now ≤ 4 }
     requires shapes { All IsShape (map shape_of shapes.now) }
     ensures value { Gives (λ v. v.items) result (conditions_of (map shape_of shapes.now) tables.now list.now) }
+    ensures utf8 { IfOk result (λ v. All IsUtf8Condition v.items) }
 {
     let mut conditions = Vec::new(alloc);
     for part in list {
@@ -559,6 +562,7 @@ fn named(alloc: Global, shapes: &[TableShape], ast: &Ast) -> Result<Query, Unres
     requires few { length shapes.now ≤ 16 }
     requires shapes { All IsShape (map shape_of shapes.now) }
     ensures value { Gives query_of result (named (map shape_of shapes.now) (ast_of ast.now)) }
+    ensures utf8 { IfOk result (λ q. All IsUtf8Filter q.filters.items) }
 {
     let tables = tables(alloc, shapes, &ast.tables)?;
     let items = items(alloc, shapes, &tables, &ast.items)?;
@@ -579,7 +583,7 @@ fn named(alloc: Global, shapes: &[TableShape], ast: &Ast) -> Result<Query, Unres
 /// The query over the tables of these shapes that a select asks for.
 ///
 /// There are at most 16 shapes, whose names differ, and at least one item and one table in the select. A text literal fits
-/// a column of texts where it is UTF-8, a number literal a column of numbers where `read_number` takes it at the column's scale.
+/// a column of texts, a number literal a column of numbers where `read_number` takes it at the column's scale.
 ///
 /// # Errors
 /// The first fault in this order, with the place of its part; each list goes from left to right.

@@ -10,7 +10,7 @@ ghost use Rattle.pdq_sql.specs.Resolving.{ClustersAreTies, IsJoinOfFour};
 
 use crate::ast::Ast;
 use crate::faults::{SqlFault, SqlWhy};
-use pdq_query::{At, Item, Query};
+use pdq_query::{At, Item, Query, is_fold};
 
 fn is_count(item: &Item) -> bool
     ensures value { result ≡ is_count item.now }
@@ -18,15 +18,6 @@ fn is_count(item: &Item) -> bool
     match item {
         Item::Count => true,
         _ => false,
-    }
-}
-
-fn is_fold(item: &Item) -> bool
-    ensures value { result ≡ is_fold item.now }
-{
-    match item {
-        Item::Plain(_) => false,
-        _ => true,
     }
 }
 
@@ -56,7 +47,7 @@ fn is_ungrouped(groups: &[At], item: &Item) -> bool
 fn has_fold(items: &[Item]) -> bool
     ensures value { result ≡ list_any is_fold items.now }
 {
-    items.iter().any(|item| is_fold(item))
+    items.iter().any(|item| is_fold(*item))
 }
 
 fn count_place(items: &[Item]) -> Option<usize>

@@ -1,6 +1,8 @@
-use Rattle.std.proofs.Common.{map}
+use Rattle.std.proofs.Common.{All, List, map, subst, sym}
+use Rattle.pdq_query.specs.declared.query.Filter.{Filter}
+use Rattle.pdq_sql.specs.Resolving.{IsUtf8Filter}
 use Rattle.pdq_value.specs.Tables.{shape_of}
-use Rattle.pdq_sql.proofs.ResolutionFits.{four_tables, sixteen_items}
+use Rattle.pdq_sql.proofs.ResolutionFits.{four_tables, sixteen_items, utf8_filters}
 use Rattle.pdq_sql.proofs.resolving.named.Goals as goal
 
 pub items-requires-clause-from : goal.items-requires-clause-from
@@ -17,3 +19,8 @@ keys-requires-clause-from c = rw c.deref-8.ensures.value (four_tables (map shape
 
 pub keys-requires-clause-items : goal.keys-requires-clause-items
 keys-requires-clause-items c = rw c.deref-9.ensures.value (sixteen_items (map shape_of c.args.shapes.now) c.deref-2.result.now c.deref-3.result.now _ c.in_ok-items.ensures.value)
+
+pub returns-clause-utf8 : goal.returns-clause-utf8
+returns-clause-utf8 c =
+    let AreUtf8 : List Filter → Type 0 = λ filters. All IsUtf8Filter filters in
+    subst AreUtf8 (sym c.in_ok-filters.ensures.filters) (utf8_filters c.in_ok-conditions.conditions.items c.in_ok-conditions.ensures.utf8)

@@ -23,4 +23,4 @@ unfolding resolution_of
 returns-in-None-clause-fits c =
     let none : first_fault (ast_of c.args.ast.now) (query_of c.in-Ok.query) ≡ None = sym c.first_fault.ensures.value ∙ c.in-None.is in
     let found : resolution_of (map shape_of c.args.shapes.now) (ast_of c.args.ast.now) ≡ Ok (query_of c.in-Ok.query) = rw (c.in-Ok.ensures.value, none) refl in
-    resolution-Fits (map shape_of c.args.shapes.now) (ast_of c.args.ast.now) (query_of c.in-Ok.query) c.requires.some c.requires.tables found
+    resolution-Fits (map shape_of c.args.shapes.now) (ast_of c.args.ast.now) (query_of c.in-Ok.query) c.requires.some c.requires.tables found c.in-Ok.ensures.utf8
