@@ -1,5 +1,5 @@
 -- How serving callers ends.
-use Rattle.std.specs.Prelude.{ℕ, ◌+◌, Bool, true, false, Option, Some, None, is_some}
+use Rattle.std.specs.Prelude.{ℕ, ◌+◌, Bool, true, false, is_some}
 use Rattle.pdq_edge.specs.declared.serve_ends.ServeEnd.{ServeEnd}
 
 abbrev pub one_if : Bool → ℕ

@@ -1,4 +1,4 @@
-ghost use Rattle.std.specs.Prelude.{◌≡◌, ◌≤◌, ◌||◌, ℕ, Bool, Option, IfOk, IfSome, IsTrue, OnErr};
+ghost use Rattle.std.specs.Prelude.{◌≡◌, ◌||◌, ℕ, Bool, Option, IfOk, IfSome, IsTrue, OnErr};
 ghost use Rattle.pdq_edge.specs.Bytes.{told_count};
 ghost use Rattle.pdq_edge.specs.Callers.{callers_in, came, says_closed, is_closed, FitsComing, ComesOut};
 ghost use Rattle.pdq_edge.specs.Causes.{HasCause};

@@ -1,4 +1,4 @@
-ghost use Rattle.std.specs.Prelude.{◌≡◌, ◌≢◌, ◌≤◌, ◌↔◌, ◌++◌, ◌∷◌, [], ℕ, List, IsErrOf, IsNone, IfSome, OnOk, OnErr, length};
+ghost use Rattle.std.specs.Prelude.{◌≡◌, ◌≤◌, ◌↔◌, ◌++◌, ◌∷◌, [], ℕ, List, IsErrOf, IsNone, IfSome, OnOk, OnErr, length};
 ghost use Rattle.pdq_edge.specs.Bytes.{told_count};
 ghost use Rattle.pdq_edge.specs.Causes.{Rose};
 ghost use Rattle.pdq_edge.specs.Jobs.{IsCounted};

@@ -1,7 +1,5 @@
 //! A door over a TCP listener. Its callers are TCP streams, of which `Reading` and `Writing` are the source and the sink.
 ghost use Rattle.std.specs.Prelude.{◌≡◌, false, IfOk, vec_len};
-ghost use Rattle.pdq_edge.specs.Bytes.{told_count};
-ghost use Rattle.pdq_edge.specs.Causes.{Rose};
 
 use crate::{Caller, Door, Failed, Knock, Reading, Writing};
 use pdq_base::Memory;
@@ -86,7 +84,10 @@ fn accepted<K: Clock>(listener: &TcpListener, clock: &K) -> Result<Option<TcpStr
 
 impl<K: Clock + Drop, M: StoreMaker + Drop> TcpDoor<K, M> {
     /// A door over this listener, which is set so that it does not block.
-    pub fn new(listener: TcpListener, clock: K, maker: M) -> io::Result<Self> {
+    pub fn new(listener: TcpListener, clock: K, maker: M) -> io::Result<Self>
+        ensures given { IfOk result (λ door. ⟦<TcpDoor<K, M> as Door<TcpCaller<M::Store>>>⟧.given door ≡ 0) }
+        ensures faults { IfOk result (λ door. ⟦<TcpDoor<K, M> as Door<TcpCaller<M::Store>>>⟧.faults door ≡ 0) }
+    {
         listener.set_nonblocking(true)?;
         Ok(TcpDoor {
             listener,
