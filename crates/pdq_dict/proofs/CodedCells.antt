@@ -15,7 +15,8 @@ use Rattle.pdq_value.specs.declared.shapes.Value.{Value}
 use Rattle.pdq_value.specs.declared.shapes.Value.TheVariants as value
 use Rattle.pdq_value.specs.Cells.{cell_cmp}
 use Rattle.pdq_dict.specs.Dictionary.{code_of, dictionary_of, texts_of, texts_of_row, texts_of_table, texts_of_value}
-use Rattle.pdq_dict.specs.Coding.{HasCode, cell_of_word, is_null, null_word}
+use Rattle.pdq_base.specs.Words.{is_null, null_word}
+use Rattle.pdq_dict.specs.Coding.{HasCode, cell_of_word}
 use Rattle.pdq_dict.specs.CodingLaws.{CellsAreReadBack, EqualWordsAreEqualCells, ValuesAreReadBack, ValuesHaveWordsOfCells, ValuesOfTablesHaveCodes, WordsCompareAsCells}
 use Rattle.pdq_dict.proofs.Codes.{at_code, code_of-slice_get, codes_compare_as_texts}
 use Rattle.pdq_dict.proofs.Dictionaries.{dictionaries_hold_the_texts, dictionaries_rise}

@@ -1,6 +1,5 @@
 -- Words that stand for values and cells: a number is itself, a text is its code in the one dictionary of all tables, Null is the least word.
-use Rattle.std.specs.Prelude.{⊤, ◌≡◌, ℕ, ◌^◌, ◌<◌, List, [], ◌∷◌, Bool, if◌then◌else◌, ℤ, pos, neg_ℤ, nat_abs, map, Some, unwrap_or, slice_index_or}
-use Rattle.std.specs.Ordering.{int_eq}
+use Rattle.std.specs.Prelude.{⊤, ◌≡◌, ℕ, ◌^◌, ◌<◌, List, [], ◌∷◌, Bool, if◌then◌else◌, ℤ, pos, nat_abs, map, Some, unwrap_or, slice_index_or}
 use Rattle.pdq_value.specs.declared.cells.Cell.{Cell}
 use Rattle.pdq_value.specs.declared.cells.Cell.TheVariants as cell
 use Rattle.pdq_value.specs.declared.shapes.Column.{Column}
@@ -8,14 +7,8 @@ use Rattle.pdq_value.specs.declared.shapes.Kind.{Kind}
 use Rattle.pdq_value.specs.declared.shapes.Kind.TheVariants as kind
 use Rattle.pdq_value.specs.declared.shapes.Value.{Value}
 use Rattle.pdq_value.specs.declared.shapes.Value.TheVariants as value
+use Rattle.pdq_base.specs.Words.{is_null, null_word}
 use Rattle.pdq_dict.specs.Dictionary.{code_of}
-
--- the word of Null, the least of 64 bits, which is no number and no code
-abbrev pub null_word : ℤ
-null_word = neg_ℤ (pos (2 ^ 63))
-
-abbrev pub is_null : ℤ → Bool
-is_null w = int_eq w null_word
 
 module _ (texts : List (List ℕ)) where
   abbrev pub word_of_text : List ℕ → ℤ

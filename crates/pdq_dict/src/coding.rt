@@ -1,6 +1,7 @@
 //! The values and cells that words stand for.
 ghost use Rattle.std.specs.Prelude.{◌≡◌, IfOk};
-ghost use Rattle.pdq_dict.specs.Coding.{cell_of_word, is_null, text_of_word, value_of_word};
+ghost use Rattle.pdq_base.specs.Words.{is_null};
+ghost use Rattle.pdq_dict.specs.Coding.{cell_of_word, text_of_word, value_of_word};
 
 use crate::dictionary::Dict;
 use pdq_base::Memory;

@@ -5,8 +5,8 @@ use Rattle.std.proofs.lemmas.List.{drop_more, drop_all, take_more, take_more_set
 use Rattle.std.proofs.lemmas.List.Elements.{filter-append}
 use Rattle.std.proofs.lemmas.Option.{slice_get_within, get_or_from_slice_get}
 use Rattle.pdq_exchange.specs.Batches.{Row}
-use Rattle.pdq_spill.specs.Hashes.{mixed, reduced}
-use Rattle.pdq_exchange.specs.Routing.{exchange_factor, key_of, hash_of, owner_of, owner_of_key, rows_for, IsRouted}
+use Rattle.pdq_spill.specs.Hashes.{exchange_factor, mixed, reduced}
+use Rattle.pdq_exchange.specs.Routing.{key_of, hash_of, owner_of, owner_of_key, rows_for, IsRouted}
 
 -- the hash, one word on
 pub mixed_more : (keys : List ℕ) (row : Row) (i h : ℕ) → i < length keys → fold (mixed exchange_factor) h (key_of (drop i keys) row) ≡ fold (mixed exchange_factor) (mixed exchange_factor h (get_or row (get_or keys i 0) (pos 0))) (key_of (drop (i + 1) keys) row)

@@ -10,8 +10,8 @@ use Rattle.std.proofs.lemmas.List.Elements.{filter-append, filter_passes, All-co
 use Rattle.std.proofs.lemmas.List.Sorted.{IsPermutation-refl, IsPermutation-sym, IsPermutation-trans, IsPermutation-cons, IsPermutation-middle, IsPermutation-append_right, All-permutation}
 use Rattle.pdq_exchange.specs.Batches.{Row}
 use Rattle.pdq_exchange.specs.Roles.{Coming, Gave, IsComing, behind}
-use Rattle.pdq_spill.specs.Hashes.{mixed, reduced}
-use Rattle.pdq_exchange.specs.Routing.{exchange_factor, hash_of, key_of, owner_of, owner_of_key, rows_for, share_of}
+use Rattle.pdq_spill.specs.Hashes.{exchange_factor, mixed, reduced}
+use Rattle.pdq_exchange.specs.Routing.{hash_of, key_of, owner_of, owner_of_key, rows_for, share_of}
 
 -- a hash has 64 bits
 hash_within : (key : List ℤ) (h : ℕ) → h < 2 ^ 64 → fold (mixed exchange_factor) h key < 2 ^ 64

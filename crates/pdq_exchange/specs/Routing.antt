@@ -1,15 +1,11 @@
 -- Which owner gets a row.
 use Rattle.std.specs.Prelude.{◌≡◌, ℕ, ◌-◌, ◌^◌, ◌==◌, min, List, map, slice_index_or, fold, filter, flat_map, length, take, ℤ, pos}
-use Rattle.pdq_spill.specs.Hashes.{mixed, reduced}
+use Rattle.pdq_spill.specs.Hashes.{exchange_factor, mixed, reduced}
 use Rattle.pdq_exchange.specs.Batches.{Row}
 
 -- the words of a row's key
 abbrev pub key_of : List ℕ → Row → List ℤ
 key_of keys row = map (λ k. slice_index_or row k (pos 0)) keys
-
--- the factor of the exchange's hash, which no operator behind it has: those rows of an owner would crowd into few of the operator's chains
-abbrev pub exchange_factor : ℕ
-exchange_factor = 13787848793156543929
 
 -- the hash of a key
 abbrev pub hash_of : List ℤ → ℕ

@@ -13,3 +13,4 @@ mod rows;
 mod tallies;
 
 pub use evaluation::{SerialFault, serial};
+pub use rows::sort_rows;

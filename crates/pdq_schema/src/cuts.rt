@@ -23,7 +23,7 @@ pub enum Cut {
 }
 
 /// The order of values: Null first, then numbers by value, then texts by bytes.
-fn compare(value: &Value, other: &Value) -> Ordering
+pub fn compare(value: &Value, other: &Value) -> Ordering
     ensures value { result ≡ value_cmp value.now other.now }
 {
     match value {
@@ -78,7 +78,7 @@ fn first_range(ranges: &[Range], value: &Value) -> Option<usize>
 }
 
 /// The number of the first range that holds the value, behind the last where none does.
-fn range_number(ranges: &[Range], value: &Value) -> u32
+pub fn range_number(ranges: &[Range], value: &Value) -> u32
     requires few { length ranges.now ≤ 15 }
     ensures value { result ≡ range_number ranges.now value.now }
     ensures within { result ≤ length ranges.now }

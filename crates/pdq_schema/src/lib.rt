@@ -16,7 +16,7 @@ mod tests;
 mod tree;
 
 pub use copying::copy_shape;
-pub use cuts::{Cut, Range};
+pub use cuts::{Cut, Range, compare, range_number};
 pub use faults::{SchemaFault, SchemaWhy};
 pub use reading::read_schema;
 pub use schema::Schema;

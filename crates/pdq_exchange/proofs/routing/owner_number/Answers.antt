@@ -2,8 +2,8 @@ use Rattle.std.proofs.Common.{arith, rules, sym, ap, ◌∙◌, ◌≤◌, ◌+�
 use Rattle.std.specs.Prelude.{ℤ, pos, fold}
 use mir.Val.{SFits}
 use Rattle.std.proofs.lemmas.Int.{to_z-of_z}
-use Rattle.pdq_spill.specs.Hashes.{mixed}
-use Rattle.pdq_exchange.specs.Routing.{exchange_factor, key_of}
+use Rattle.pdq_spill.specs.Hashes.{exchange_factor, mixed}
+use Rattle.pdq_exchange.specs.Routing.{key_of}
 use Rattle.pdq_exchange.proofs.Routes.{mixed_more, mixed_all, owner_is}
 use Rattle.pdq_exchange.proofs.routing.owner_number.Goals as goal
 

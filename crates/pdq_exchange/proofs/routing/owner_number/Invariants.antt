@@ -1,7 +1,7 @@
 use Rattle.std.proofs.Common.{◌≡◌, drop}
 use Rattle.std.specs.Prelude.{fold}
-use Rattle.pdq_spill.specs.Hashes.{mixed}
-use Rattle.pdq_exchange.specs.Routing.{exchange_factor, key_of, hash_of}
+use Rattle.pdq_spill.specs.Hashes.{exchange_factor, mixed}
+use Rattle.pdq_exchange.specs.Routing.{key_of, hash_of}
 use Rattle.pdq_exchange.proofs.routing.owner_number.Given as goal
 
 abbrev pub invariant-loop-key : goal.invariant-loop-key
