@@ -1,7 +1,13 @@
+pub mod Decoding
 pub mod FileRecords
-pub mod RowKinds
-pub mod TableReads
+pub mod Finishing
+pub mod FlatRows
 pub mod Layouts
+pub mod NotedLaws
+pub mod NotedTables
+pub mod Recoding
+pub mod RowKinds
 pub mod Samples
 pub mod Stores
+pub mod TableReads
 pub mod Whole

@@ -109,6 +109,10 @@ row_is columns p cells fields =
     unless (IsRowOf columns) (nat_lt most_rows p.row) _ _
     (unless (IsRowOf columns) (nat_lt cell_limit (cells + length columns)) _ _ (row_with_is columns p fields _ refl))
 
+-- a row that is read is of the columns' kinds
+pub row_read : (columns : List Column) (p : Place) (cells : ℕ) (fields : List (List ℕ)) (row : List Value) → row_of columns p cells fields ≡ Ok row → IsRowOf columns row
+row_read columns p cells fields row reads = subst (Reads (IsRowOf columns)) reads (row_is columns p cells fields)
+
 one_more : (columns : List Column) (r : Result (List Value) LoadFault) (rs : Result (List (List Value)) LoadFault)
     → Reads (IsRowOf columns) r → Reads (All (IsRowOf columns)) rs → Reads (All (IsRowOf columns)) (with_row r rs)
 one_more columns (Ok r) (Ok rs) h k = All-cons (IsRowOf columns) r rs h k

@@ -39,6 +39,10 @@ rows_of s table = length (slice_index_or s.tables table no_table).rows
 abbrev pub HasFragment : StoredView → ℕ → ℕ → Type 0
 HasFragment s table fragment = IfSome (slice_get (map fragment_count s.schema.cuts) table) (λ n. fragment < n)
 
+-- how many columns a table has
+abbrev pub width_at : StoredView → ℕ → ℕ
+width_at s table = length (slice_index_or s.tables table no_table).shape.columns
+
 -- the rows of a fragment of a table, in the order of the file
 abbrev pub fragment_of : StoredView → ℕ → ℕ → List (List Value)
 fragment_of s table fragment = fragment_rows (slice_index_or s.schema.cuts table (rounds 1)) fragment (slice_index_or s.tables table no_table).rows

@@ -6,6 +6,7 @@ mod fragment;
 mod headers;
 mod laws;
 mod loading;
+mod noted_words;
 mod records;
 mod rows;
 mod stored_table;

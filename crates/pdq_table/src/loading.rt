@@ -4,6 +4,7 @@ ghost use Rattle.pdq_table.specs.Loading.{Refuses, contents_of, tables_loaded};
 
 use crate::storing::Stored;
 use crate::tables::load_tables;
+use pdq_dict::Notes;
 use pdq_schema::Schema;
 use pdq_value::LoadFault;
 use std::alloc::Global;
@@ -23,11 +24,12 @@ pub fn load(alloc: Global, schema: &Schema, files: &[Vec<u8>]) -> Result<Stored,
     ensures schema { IfOk result (λ s. s.schema ≡ schema.now) }
     ensures refused { IfErr result (Refuses (tables_loaded schema.now.shapes (contents_of files.now))) }
 {
-    let db = load_tables(alloc, schema.shapes(), files)?;
+    let mut notes = Notes::new(alloc);
+    let tables = load_tables(alloc, schema, schema.shapes(), files, &mut notes)?;
     let Ok(schema) = schema.copy(alloc) else {
         return Err(LoadFault::Memory);
     };
-    let Ok(stored) = Stored::of(alloc, schema, db) else {
+    let Ok(stored) = Stored::finish(alloc, schema, notes, tables) else {
         return Err(LoadFault::Memory);
     };
     Ok(stored)

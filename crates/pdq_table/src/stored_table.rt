@@ -1,16 +1,25 @@
 //! A table in fragments.
-ghost use Rattle.std.specs.Prelude.{◌≡◌, ◌<◌, ◌≤◌, ◌∷◌, ◌++◌, [], All, IfOk, OnOk, length, replicate};
+ghost use Rattle.std.specs.Prelude.{◌≡◌, ◌<◌, ◌≤◌, ◌∷◌, ◌++◌, [], ℕ, List, All, IfOk, OnOk, fold, length, map, replicate};
+ghost use Rattle.pdq_dict.specs.Dictionary.{texts_of_row};
+ghost use Rattle.pdq_dict.specs.Texts.{noted};
 ghost use Rattle.pdq_schema.specs.Fragments.{CutsRow, fragment_count};
 ghost use Rattle.pdq_schema.specs.Schemas.{cut_of};
+ghost use Rattle.pdq_value.specs.declared.shapes.Value.{Value as TableValue};
 ghost use Rattle.pdq_value.specs.PlainTable.{most_rows};
-ghost use Rattle.pdq_value.specs.Tables.{table_of};
-ghost use Rattle.pdq_table.specs.Layout.{HoldsRow, HoldsRows, IsCutBy, IsCutInto, row_at, rows_at, table_stored};
+ghost use Rattle.pdq_value.specs.Tables.{IsRowOf, table_of};
+ghost use Rattle.pdq_table.specs.Layout.{HoldsRows, HoldsWords, IsNotedTable, IsOpenTable, IsPushed, IsRecoded, row_words_at, table_stored, words_at};
+ghost use Rattle.pdq_table.specs.NotedWords.{recoded};
+ghost use Rattle.pdq_table.specs.Words.{no_rows, with_words};
+ghost use Rattle.pdq_table.specs.declared.stored_table.Spot.{Spot as SpotValue};
+ghost use Rattle.pdq_dict.specs.Coding.{decoded_row};
 
 use crate::fragment::Fragment;
-use crate::rows::copy_row;
+use crate::noted_words::note_row;
+use crate::rows::decode_row;
 use pdq_base::Memory;
+use pdq_dict::{Dict, Notes};
 use pdq_schema::{Cut, copy_shape};
-use pdq_value::{Row, Table, TableShape};
+use pdq_value::{Column, Row, Table, TableShape, Value};
 use std::alloc::Global;
 
 /// Where a row stands: its fragment, and its place there. Both count from 0.
@@ -28,37 +37,53 @@ pub(crate) struct StoredTable {
     pub spots: Vec<Spot>,
 }
 
-/// So many fragments with no rows.
-fn empty_fragments(alloc: Global, count: u32) -> Result<Vec<Fragment>, Memory>
-    ensures value { IfOk result (λ v. v.items ≡ replicate count []) }
+/// So many fragments with no rows, of rows with so many words.
+fn empty_fragments(alloc: Global, count: u32, width: u32) -> Result<Vec<Fragment>, Memory>
+    ensures value { IfOk result (λ v. v.items ≡ replicate count (no_rows width)) }
 {
     let mut fragments = Vec::new(alloc);
     for _ in 0..count {
-        let Ok(()) = fragments.push(Fragment::new(alloc)) else {
+        let Ok(()) = fragments.push(Fragment::new(alloc, width)) else {
             return Err(Memory);
         };
     }
     Ok(fragments)
 }
 
-fn row_at(fragments: &[Fragment], spot: Spot) -> &Row
-    requires spot { HoldsRow fragments.now spot }
-    ensures value { result.now ≡ row_at fragments.now spot }
+/// Puts the codes of texts in place of the numbers of their notes.
+fn recode_fragments(codes: &[u32], fragments: &mut [Fragment])
+    ensures value { fragments.new ≡ map (with_words (recoded codes.now)) fragments.old }
+{
+    for fragment in fragments.iter_mut() {
+        fragment.recode(codes);
+    }
+}
+
+/// The words of the row at a spot.
+fn row_at(fragments: &[Fragment], spot: Spot) -> &[i64]
+    requires spot { HoldsWords fragments.now spot }
+    ensures value { result.now ≡ row_words_at fragments.now spot }
 {
     let fragment = &fragments[spot.fragment as usize];
     fragment.row(spot.place)
 }
 
-/// The rows at these spots once more.
-fn copy_rows(alloc: Global, fragments: &[Fragment], spots: &[Spot]) -> Result<Vec<Row>, Memory>
-    requires spots { All (HoldsRow fragments.now) spots.now }
-    ensures value { IfOk result (λ v. v.items ≡ rows_at fragments.now spots.now) }
+/// The rows at these spots, decoded.
+fn decode_rows(
+    alloc: Global,
+    dict: &Dict,
+    columns: &[Column],
+    fragments: &[Fragment],
+    spots: &[Spot],
+) -> Result<Vec<Row>, Memory>
+    requires spots { All (HoldsWords fragments.now) spots.now }
+    ensures value { IfOk result (λ v. v.items ≡ map (λ (s : SpotValue). decoded_row dict.now columns.now (row_words_at fragments.now s)) spots.now) }
 {
     let Ok(mut rows) = Vec::with_capacity(alloc, spots.len()) else {
         return Err(Memory);
     };
     for spot in spots {
-        let row = copy_row(alloc, row_at(fragments, *spot))?;
+        let row = decode_row(alloc, dict, columns, row_at(fragments, *spot))?;
         let Ok(()) = rows.push(row) else {
             return Err(Memory);
         };
@@ -68,33 +93,31 @@ fn copy_rows(alloc: Global, fragments: &[Fragment], spots: &[Spot]) -> Result<Ve
 
 impl StoredTable {
     /// A table of this shape with no rows, in so many fragments as the cut has.
-    fn new(alloc: Global, shape: TableShape, cut: &Cut) -> Result<StoredTable, Memory>
+    pub fn new(alloc: Global, shape: TableShape, cut: &Cut) -> Result<StoredTable, Memory>
         requires fragments { fragment_count (cut_of cut.now) ≤ 16 }
+        requires few { length shape.columns.items ≤ 16 }
         ensures shape { IfOk result (λ t. t.shape ≡ shape) }
-        ensures rows { IfOk result (λ t. t.spots.items ≡ []) }
-        ensures cut { IfOk result (λ t. IsCutInto (cut_of cut.now) t.fragments.items t.spots.items) }
+        ensures table { IfOk result (λ t. (notes : List (List ℕ)) → IsNotedTable notes (cut_of cut.now) t []) }
     {
+        let width = shape.columns.len() as u32;
         Ok(StoredTable {
             shape,
-            fragments: empty_fragments(alloc, cut.fragment_count())?,
+            fragments: empty_fragments(alloc, cut.fragment_count(), width)?,
             spots: Vec::new(alloc),
         })
     }
 
-    /// Takes in the next row of the file.
-    fn push(&mut self, cut: &Cut, row: Row) -> Result<(), Memory>
-        requires row { CutsRow (cut_of cut.now) row }
-        requires few { length self.old.spots.items < most_rows }
-        requires cut { IsCutInto (cut_of cut.now) self.old.fragments.items self.old.spots.items }
+    /// Puts a row behind the others of a fragment.
+    fn push(&mut self, number: u32, words: &[i64]) -> Result<(), Memory>
+        requires fragment { number < length self.old.fragments.items }
+        requires few { length (words_at self.old.fragments.items number).rows < most_rows }
+        requires width { (words_at self.old.fragments.items number).width ≡ length words.now }
+        ensures pushed { OnOk result (IsPushed self.old number words.now self.new) }
         ensures shape { self.new.shape ≡ self.old.shape }
-        ensures rows { OnOk result (rows_at self.new.fragments.items self.new.spots.items
-            ≡ rows_at self.old.fragments.items self.old.spots.items ++ row ∷ []) }
-        ensures cut { OnOk result (IsCutInto (cut_of cut.now) self.new.fragments.items self.new.spots.items) }
     {
-        let number = cut.fragment_number(self.spots.len() as u32, row.values());
         let fragment = &mut self.fragments[number as usize];
         let place = fragment.len();
-        fragment.push(row)?;
+        fragment.push(words)?;
         let spot = Spot {
             fragment: number,
             place,
@@ -105,30 +128,50 @@ impl StoredTable {
         Ok(())
     }
 
-    /// A table in the fragments of its cut.
-    pub fn of(alloc: Global, cut: &Cut, table: Table) -> Result<StoredTable, Memory>
-        requires fragments { fragment_count (cut_of cut.now) ≤ 16 }
-        requires rows { All (CutsRow (cut_of cut.now)) table.rows.items }
-        requires few { length table.rows.items ≤ most_rows }
-        ensures table { IfOk result (λ t. table_stored t ≡ table_of table) }
-        ensures cut { IfOk result (IsCutBy (cut_of cut.now)) }
+    /// Takes in the next row of the file, and notes its texts. What stood in `words` is overwritten.
+    pub fn take(
+        &mut self,
+        alloc: Global,
+        cut: &Cut,
+        notes: &mut Notes,
+        row: &[Value],
+        words: &mut Vec<i64>,
+    ) -> Result<(), Memory>
+        requires row { CutsRow (cut_of cut.now) row.now }
+        requires kinds { IsRowOf self.old.shape.columns.items row.now }
+        requires few { length self.old.spots.items < most_rows }
+        requires table { IsOpenTable notes.old (cut_of cut.now) self.old }
+        ensures shape { self.new.shape ≡ self.old.shape }
+        ensures noted { OnOk result (notes.new ≡ fold noted notes.old (texts_of_row row.now)) }
+        ensures table { OnOk result ((rows : List (List TableValue)) → IsNotedTable notes.old (cut_of cut.now) self.old rows →
+            IsNotedTable notes.new (cut_of cut.now) self.new (rows ++ row.now ∷ [])) }
     {
-        let Table { shape, rows } = table;
-        let mut stored = StoredTable::new(alloc, shape, cut)?;
-        for row in rows {
-            stored.push(cut, row)?;
-        }
-        Ok(stored)
+        note_row(alloc, notes, row, words)?;
+        let number = cut.fragment_number(self.spots.len() as u32, row);
+        self.push(number, words)
     }
 
-    /// The table once more, with its rows in the order of the file.
-    pub fn to_table(&self, alloc: Global) -> Result<Table, Memory>
+    /// Puts the codes of texts in place of the numbers of their notes.
+    pub fn recode(&mut self, codes: &[u32])
+        ensures recoded { IsRecoded codes.now self.old self.new }
+    {
+        recode_fragments(codes, &mut self.fragments);
+    }
+
+    /// The table with its values, its rows in the order of the file.
+    pub fn to_table(&self, alloc: Global, dict: &Dict) -> Result<Table, Memory>
         requires spots { HoldsRows self.now }
-        ensures value { IfOk result (λ t. table_of t ≡ table_stored self.now) }
+        ensures value { IfOk result (λ t. table_of t ≡ table_stored dict.now self.now) }
     {
         Ok(Table {
             shape: copy_shape(alloc, &self.shape)?,
-            rows: copy_rows(alloc, &self.fragments, &self.spots)?,
+            rows: decode_rows(
+                alloc,
+                dict,
+                &self.shape.columns,
+                &self.fragments,
+                &self.spots,
+            )?,
         })
     }
 }

@@ -100,9 +100,12 @@ fn fragment_in(stored: &Stored, number: u32) -> Option<&Fragment>
     }
 }
 
+/// The first word of each row of a fragment.
 fn add_fragment(fragment: &Fragment, keys: &mut Vec<i64>) -> Result<(), AllocError> {
     for i in 0..fragment.len() {
-        keys.push(key(fragment.row(i)))?;
+        if let [number, ..] = fragment.row(i) {
+            keys.push(*number)?;
+        }
     }
     Ok(())
 }

@@ -1,43 +1,54 @@
 //! The tables that files say, one after another.
-ghost use Rattle.std.specs.Prelude.{◌≡◌, ◌+◌, ◌*◌, ◌≤◌, ℕ, All, IfErr, IfOk, None, Ok, Some, length, map};
+ghost use Rattle.std.specs.Prelude.{◌≡◌, ◌+◌, ◌*◌, ◌≤◌, [], ℕ, All, IfErr, IfOk, None, Ok, OnOk, Some, length, map};
 ghost use Rattle.std.specs.Global.{Vec};
 ghost use Rattle.pdq_dict.specs.Dictionary.{cell_limit};
+ghost use Rattle.pdq_schema.specs.Fragments.{fragment_count};
+ghost use Rattle.pdq_schema.specs.Schemas.{IsCutOf, IsSchema, cut_of};
 ghost use Rattle.pdq_value.specs.declared.shapes.Column.{Column};
 ghost use Rattle.pdq_value.specs.PlainTable.{most_rows};
-ghost use Rattle.pdq_value.specs.Tables.{IsKind, IsShape, IsTable, shape_of, table_of, tables_of};
+ghost use Rattle.pdq_value.specs.Tables.{IsKind, IsShape, shape_of};
+ghost use Rattle.pdq_table.specs.Layout.{AreReadRows, AreReadTables, IsNotedTable, IsReadTable};
 ghost use Rattle.pdq_table.specs.Loading.{Refuses, contents_of, most_bytes, records_of, rows_from, rows_in, table_from, tables_from, tables_loaded, too_long_at};
 ghost use Rattle.pdq_table.specs.Records.{IsReading, records_left};
-ghost use Rattle.pdq_table.specs.Storing.{AreTablesOf};
 
 use crate::fields::{MOST_ROWS, fault, read_row};
 use crate::headers::check_header;
 use crate::records::{next_record, records_in};
+use crate::stored_table::StoredTable;
 use csv::{ByteRecord, Reader};
-use pdq_schema::copy_shape;
-use pdq_value::{Column, Db, LoadFault, LoadWhy, Row, Table, TableShape};
+use pdq_dict::Notes;
+use pdq_schema::{Cut, Schema, copy_shape};
+use pdq_value::{Column, LoadFault, LoadWhy, TableShape};
 use std::alloc::Global;
 
 /// The most bytes of a file.
 const MOST_BYTES: usize = 134_217_728;
 
-/// The rows that the records say that a reader has left, where all tables have so many cells before them.
+/// Takes in the rows that the records say that a reader has left, where all tables have so many cells before them.
 fn read_rows(
     alloc: Global,
+    cut: &Cut,
     columns: &[Column],
     table: u32,
     cells: u64,
     reader: &mut Reader<&[u8]>,
-) -> Result<Vec<Row>, LoadFault>
+    notes: &mut Notes,
+    stored: &mut StoredTable,
+) -> Result<(), LoadFault>
     requires kinds { All (λ (c : Column). IsKind c.kind) columns.now }
     requires few { length columns.now ≤ 16 }
+    requires columns { stored.old.shape.columns.items ≡ columns.now }
+    requires cut { IsCutOf columns.now (cut_of cut.now) }
     requires cells { cells ≤ cell_limit }
     requires reading { IsReading reader.old }
-    ensures read { IfOk result (λ rows. rows_from columns.now table 1 cells (records_left reader.old) ≡ Ok rows.items) }
+    requires empty { IsNotedTable notes.old (cut_of cut.now) stored.old [] }
+    ensures read { OnOk result (AreReadRows (rows_from columns.now table 1 cells (records_left reader.old)) (cut_of cut.now) notes.old notes.new stored.new) }
     ensures refused { IfErr result (Refuses (rows_from columns.now table 1 cells (records_left reader.old))) }
-    ensures few { IfOk result (λ rows. length rows.items ≤ most_rows) }
-    ensures room { IfOk result (λ rows. cells + length rows.items * length columns.now ≤ cell_limit) }
+    ensures shape { OnOk result (stored.new.shape ≡ stored.old.shape) }
+    ensures few { OnOk result (length stored.new.spots.items ≤ most_rows) }
+    ensures room { OnOk result (cells + length stored.new.spots.items * length columns.now ≤ cell_limit) }
 {
-    let mut rows = Vec::new(alloc);
+    let mut words = Vec::new(alloc);
     let mut fields = ByteRecord::new(alloc);
     let mut cell_count = cells;
     for row_no in 1..=MOST_ROWS + 1 {
@@ -45,10 +56,10 @@ fn read_rows(
             return Err(LoadFault::Memory);
         };
         if !found {
-            return Ok(rows);
+            return Ok(());
         }
         let row = read_row(alloc, columns, table, row_no, cell_count, &fields)?;
-        let Ok(()) = rows.push(row) else {
+        let Ok(()) = stored.take(alloc, cut, notes, row.values(), &mut words) else {
             return Err(LoadFault::Memory);
         };
         cell_count += columns.len() as u64;
@@ -56,22 +67,29 @@ fn read_rows(
     unreachable!()
 }
 
-/// The rows that a file says, below its header.
+/// Takes in the rows that a file says, below its header.
 fn read_file(
     alloc: Global,
+    cut: &Cut,
     columns: &[Column],
     table: u32,
     cells: u64,
     bytes: &[u8],
-) -> Result<Vec<Row>, LoadFault>
+    notes: &mut Notes,
+    stored: &mut StoredTable,
+) -> Result<(), LoadFault>
     requires kinds { All (λ (c : Column). IsKind c.kind) columns.now }
     requires few { length columns.now ≤ 16 }
+    requires columns { stored.old.shape.columns.items ≡ columns.now }
+    requires cut { IsCutOf columns.now (cut_of cut.now) }
     requires cells { cells ≤ cell_limit }
     requires short { length bytes.now ≤ most_bytes }
-    ensures read { IfOk result (λ rows. rows_in columns.now table cells (records_of bytes.now) ≡ Ok rows.items) }
+    requires empty { IsNotedTable notes.old (cut_of cut.now) stored.old [] }
+    ensures read { OnOk result (AreReadRows (rows_in columns.now table cells (records_of bytes.now)) (cut_of cut.now) notes.old notes.new stored.new) }
     ensures refused { IfErr result (Refuses (rows_in columns.now table cells (records_of bytes.now))) }
-    ensures few { IfOk result (λ rows. length rows.items ≤ most_rows) }
-    ensures room { IfOk result (λ rows. cells + length rows.items * length columns.now ≤ cell_limit) }
+    ensures shape { OnOk result (stored.new.shape ≡ stored.old.shape) }
+    ensures few { OnOk result (length stored.new.spots.items ≤ most_rows) }
+    ensures room { OnOk result (cells + length stored.new.spots.items * length columns.now ≤ cell_limit) }
 {
     let mut reader = records_in(alloc, bytes);
     let mut header = ByteRecord::new(alloc);
@@ -82,7 +100,16 @@ fn read_file(
         return Err(fault(LoadWhy::WrongFields, table, 0, 0));
     }
     check_header(alloc, columns, table, &header)?;
-    read_rows(alloc, columns, table, cells, &mut reader)
+    read_rows(
+        alloc,
+        cut,
+        columns,
+        table,
+        cells,
+        &mut reader,
+        notes,
+        stored,
+    )
 }
 
 /// The table with this number that a file says, where all tables before it have so many cells.
@@ -90,25 +117,40 @@ fn read_file(
 fn read_table(
     alloc: Global,
     shape: &TableShape,
+    cut: &Cut,
     table: u32,
     cells: u64,
     bytes: &[u8],
-) -> Result<Table, LoadFault>
+    notes: &mut Notes,
+) -> Result<StoredTable, LoadFault>
     requires shape { IsShape (shape_of shape.now) }
+    requires cut { IsCutOf shape.now.columns.items (cut_of cut.now) }
+    requires fragments { fragment_count (cut_of cut.now) ≤ 16 }
     requires cells { cells ≤ cell_limit }
     requires short { length bytes.now ≤ most_bytes }
-    ensures read { IfOk result (λ t. table_from table cells (shape_of shape.now) bytes.now ≡ Ok (table_of t)) }
+    ensures read { IfOk result (λ t. IsReadTable (table_from table cells (shape_of shape.now) bytes.now) (cut_of cut.now) notes.old notes.new t) }
     ensures refused { IfErr result (Refuses (table_from table cells (shape_of shape.now) bytes.now)) }
     ensures shape { IfOk result (λ t. shape_of t.shape ≡ shape_of shape.now) }
-    ensures table { IfOk result (λ t. IsTable (table_of t)) }
-    ensures few { IfOk result (λ t. length t.rows.items ≤ most_rows) }
-    ensures room { IfOk result (λ t. cells + length t.rows.items * length shape.now.columns.items ≤ cell_limit) }
+    ensures few { IfOk result (λ t. length t.spots.items ≤ most_rows) }
+    ensures room { IfOk result (λ t. cells + length t.spots.items * length shape.now.columns.items ≤ cell_limit) }
 {
-    let rows = read_file(alloc, &shape.columns, table, cells, bytes)?;
-    let Ok(shape) = copy_shape(alloc, shape) else {
+    let Ok(own_shape) = copy_shape(alloc, shape) else {
         return Err(LoadFault::Memory);
     };
-    Ok(Table { shape, rows })
+    let Ok(mut stored) = StoredTable::new(alloc, own_shape, cut) else {
+        return Err(LoadFault::Memory);
+    };
+    read_file(
+        alloc,
+        cut,
+        &shape.columns,
+        table,
+        cells,
+        bytes,
+        notes,
+        &mut stored,
+    )?;
+    Ok(stored)
 }
 
 /// The number of the first file that is too long.
@@ -124,49 +166,66 @@ fn first_too_long(files: &[Vec<u8>]) -> Option<u32>
     None
 }
 
-/// The tables of these shapes, each from its file, none of which is too long.
-fn read_tables(alloc: Global, shapes: &[TableShape], files: &[Vec<u8>]) -> Result<Db, LoadFault>
-    requires shapes { All IsShape (map shape_of shapes.now) }
-    requires few { length shapes.now ≤ 16 }
-    requires files { length files.now ≡ length shapes.now }
+/// The tables of a schema, each from its file, none of which is too long.
+fn read_tables(
+    alloc: Global,
+    schema: &Schema,
+    shapes: &[TableShape],
+    files: &[Vec<u8>],
+    notes: &mut Notes,
+) -> Result<Vec<StoredTable>, LoadFault>
+    requires schema { IsSchema schema.now }
+    requires shapes { map shape_of shapes.now ≡ schema.now.shapes }
+    requires files { length files.now ≡ length schema.now.shapes }
     requires short { All (λ (file : Vec ℕ). length file.items ≤ most_bytes) files.now }
-    ensures read { IfOk result (λ db. tables_from 1 0 (map shape_of shapes.now) (contents_of files.now) ≡ Ok (tables_of db)) }
-    ensures tables { IfOk result (λ db. AreTablesOf (map shape_of shapes.now) (tables_of db)) }
-    ensures refused { IfErr result (Refuses (tables_from 1 0 (map shape_of shapes.now) (contents_of files.now))) }
+    requires none { notes.old ≡ [] }
+    ensures read { IfOk result (λ v. AreReadTables (tables_from 1 0 schema.now.shapes (contents_of files.now)) schema.now notes.new v.items) }
+    ensures refused { IfErr result (Refuses (tables_from 1 0 schema.now.shapes (contents_of files.now))) }
 {
     let Ok(mut tables) = Vec::with_capacity(alloc, shapes.len()) else {
         return Err(LoadFault::Memory);
     };
     let mut cells = 0;
     for (place, shape) in shapes.iter().enumerate() {
-        let table = read_table(alloc, shape, place as u32 + 1, cells, &files[place])?;
-        cells += table.rows.len() as u64 * shape.columns.len() as u64;
+        let cut = schema.cut(place as u32);
+        let table = read_table(
+            alloc,
+            shape,
+            cut,
+            place as u32 + 1,
+            cells,
+            &files[place],
+            notes,
+        )?;
+        cells += table.spots.len() as u64 * shape.columns.len() as u64;
         let Ok(()) = tables.push(table) else {
             return Err(LoadFault::Memory);
         };
     }
-    Ok(Db { tables })
+    Ok(tables)
 }
 
-/// The tables of these shapes that the files say.
+/// The tables of a schema that the files say.
 ///
 /// # Errors
 /// The first fault, `TooLong` before all others. `Memory` where it is wanting.
 #[tactic(auto, using(crate::proofs::TableReads::none_too_long), unfolding(crate::specs::Loading::tables_loaded))]
 pub(crate) fn load_tables(
     alloc: Global,
+    schema: &Schema,
     shapes: &[TableShape],
     files: &[Vec<u8>],
-) -> Result<Db, LoadFault>
-    requires shapes { All IsShape (map shape_of shapes.now) }
-    requires few { length shapes.now ≤ 16 }
-    requires files { length files.now ≡ length shapes.now }
-    ensures read { IfOk result (λ db. tables_loaded (map shape_of shapes.now) (contents_of files.now) ≡ Ok (tables_of db)) }
-    ensures tables { IfOk result (λ db. AreTablesOf (map shape_of shapes.now) (tables_of db)) }
-    ensures refused { IfErr result (Refuses (tables_loaded (map shape_of shapes.now) (contents_of files.now))) }
+    notes: &mut Notes,
+) -> Result<Vec<StoredTable>, LoadFault>
+    requires schema { IsSchema schema.now }
+    requires shapes { map shape_of shapes.now ≡ schema.now.shapes }
+    requires files { length files.now ≡ length schema.now.shapes }
+    requires none { notes.old ≡ [] }
+    ensures read { IfOk result (λ v. AreReadTables (tables_loaded schema.now.shapes (contents_of files.now)) schema.now notes.new v.items) }
+    ensures refused { IfErr result (Refuses (tables_loaded schema.now.shapes (contents_of files.now))) }
 {
     if let Some(table) = first_too_long(files) {
         return Err(fault(LoadWhy::TooLong, table, 0, 0));
     }
-    read_tables(alloc, shapes, files)
+    read_tables(alloc, schema, shapes, files, notes)
 }

@@ -1,5 +1,5 @@
 //! CSV files as they are loaded and refused.
-use crate::tables::load_tables;
+use crate::load;
 use pdq_schema::read_schema;
 use pdq_value::{Db, LoadFault, LoadWhy, Value};
 use std::alloc::Global;
@@ -17,11 +17,14 @@ fn loaded(alloc: Global, text: &[u8]) -> Result<Db, LoadFault> {
         return Err(LoadFault::Memory);
     };
     let files = [file];
-    let shapes = schema.shapes();
-    if shapes.len() != files.len() {
+    if schema.shapes().len() != files.len() {
         return Err(LoadFault::Memory);
     }
-    load_tables(alloc, shapes, &files)
+    let stored = load(alloc, &schema, &files)?;
+    let Ok(db) = stored.to_db(alloc) else {
+        return Err(LoadFault::Memory);
+    };
+    Ok(db)
 }
 
 #[test]

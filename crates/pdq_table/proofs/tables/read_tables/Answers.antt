@@ -1,58 +1,90 @@
-use Rattle.std.proofs.Common.{◌≡◌, ◌+◌, ◌*◌, ◌≤◌, ◌<◌, ◌∙◌, List, [], ◌∷◌, ◌++◌, ap, ap₂, sym, subst, rules, map, drop, take, length, arith, ℕ}
-use Rattle.std.proofs.lemmas.List.{map-append, length-map}
+use Rattle.std.proofs.Common.{◌≡◌, ◌+◌, ◌*◌, ◌<◌, ◌∙◌, List, [], ◌∷◌, get_or, ap, ap₂, sym, subst, drop, take, length, length-append, map, arith, rules, ℕ, Some}
+use Rattle.std.specs.Prelude.{slice_get}
+use Rattle.std.proofs.lemmas.List.{get_or-map, length-map}
 use Rattle.std.proofs.lemmas.List.Elements.{All-get_or}
-use Rattle.std.proofs.Math.ListN.{get_or-map}
-use Rattle.pdq_dict.specs.Dictionary.{cells_in}
-use Rattle.pdq_value.specs.declared.shapes.Table.{Table}
+use Rattle.std.proofs.lemmas.Result.{err_from_is_err_and}
+use Rattle.pdq_schema.specs.Schemas.{IsCutOf, cut_of}
 use Rattle.pdq_value.specs.declared.shapes.TableShape.{TableShape}
-use Rattle.pdq_value.specs.Tables.{IsShape, ShapeView, TableView, shape_of, table_of}
-use Rattle.pdq_table.specs.Loading.{contents_of, tables_from}
-use Rattle.pdq_table.proofs.TableReads.{after_tables, cells_more, one_table, tables_more, with_after, with_before}
+use Rattle.pdq_value.specs.Tables.{IsShape, ShapeView, shape_of}
+use Rattle.pdq_table.specs.Loading.{contents_of}
+use Rattle.pdq_table.proofs.Stores.{cut_is}
+use Rattle.pdq_table.proofs.TableReads.{table_refused, tables_so_far-more, with_after, with_before}
 use Rattle.pdq_table.proofs.tables.read_tables.Goals as goal
+
+-- the shape at a place of a schema
+shape_here : (views : List ShapeView) (shapes : List TableShape) (place : ℕ) (x : TableShape) → map shape_of shapes ≡ views → place < length shapes → x ≡ get_or shapes place x →
+    shape_of x ≡ get_or views place (shape_of x)
+shape_here views shapes place x are less is =
+    ap shape_of is ∙ sym (get_or-map shape_of shapes place x (shape_of x) less) ∙ ap (λ (ss : List ShapeView). get_or ss place (shape_of x)) are
 
 pub read_table-requires-clause-shape : goal.read_table-requires-clause-shape
 read_table-requires-clause-shape c =
-    let i = c.loop-place.place in
+    let place = c.loop-place.place in
+    let shapes = c.args.shapes.now in
     let x = c.index-shapes-place.result in
-    let h = All-get_or IsShape (map shape_of c.args.shapes.now) i (shape_of x) (omega (arith, length-map c.args.shapes.now shape_of)) c.requires.shapes in
-    subst IsShape (get_or-map shape_of c.args.shapes.now i x ∙ ap shape_of (sym c.index-shapes-place.is)) h
+    let less : place < length shapes = omega arith in
+    let inside : place < length c.args.schema.now.shapes = omega (arith, less, ap length c.requires.shapes, length-map shapes shape_of) in
+    subst IsShape (sym (shape_here c.args.schema.now.shapes shapes place x c.requires.shapes less c.index-shapes-place.is))
+    (All-get_or IsShape c.args.schema.now.shapes place (shape_of x) inside c.requires.schema.shapes)
+
+pub read_table-requires-clause-cut : goal.read_table-requires-clause-cut
+read_table-requires-clause-cut c =
+    let place = c.loop-place.place in
+    let shapes = c.args.shapes.now in
+    let x = c.index-shapes-place.result in
+    let cut = cut_of c.cut-cut.result.now in
+    let less : place < length shapes = omega arith in
+    subst (λ (s : ShapeView). IsCutOf s.columns cut) (sym (shape_here c.args.schema.now.shapes shapes place x c.requires.shapes less c.index-shapes-place.is))
+    (cut_is c.args.schema.now.shapes c.args.schema.now.cuts place cut (shape_of x) c.requires.schema.cuts c.cut-cut.ensures.value)
+
+pub returns-in_err-table-clause-refused : goal.returns-in_err-table-clause-refused
+returns-in_err-table-clause-refused c =
+    let p = err_from_is_err_and c.from_residual.result c.from_residual.ensures.1 in
+    let place = c.loop-place.place in
+    let shapes = c.args.shapes.now in
+    let files = c.args.files.now in
+    let views = c.args.schema.now.shapes in
+    let x = c.index-shapes-place.result in
+    let f = c.index-files-place.result in
+    let less : place < length shapes = omega arith in
+    let inside : place < length views = omega (arith, less, ap length c.requires.shapes, length-map shapes shape_of) in
+    let less_files : place < length files = omega (arith, inside, c.requires.files) in
+    let here : shape_of x ≡ get_or views place (shape_of x) = shape_here views shapes place x c.requires.shapes less c.index-shapes-place.is in
+    let refused = rw c.deref.ensures.value at c.in_err-table.ensures.refused in
+    rw (p.1, p.2) (table_refused _ (place + 1) c.loop-place.cells c.loop-place.invariant.so_far.tables (drop place views) (contents_of (drop place files)) c.loop-place.invariant.so_far.said
+    (shape_of x) f.items (drop (place + 1) views) (contents_of (drop (place + 1) files)) (with_after views place (shape_of x) inside here)
+    (ap contents_of (with_after files place f less_files c.index-files-place.is)) _ refused)
 
 pub loop-place-preserved : goal.loop-place-preserved
 loop-place-preserved c =
     let place = c.loop-place.place in
+    let schema = c.args.schema.now in
     let shapes = c.args.shapes.now in
     let files = c.args.files.now in
-    let inv = c.loop-place.invariant in
+    let so_far = c.loop-place.invariant in
     let old = c.loop-place.tables.items in
     let t = c.in_ok-table.table in
     let x = c.index-shapes-place.result in
     let f = c.index-files-place.result in
-    let e = c.in_ok-table.ensures in
+    let cells = c.loop-place.cells in
     let less : place < length shapes = omega arith in
-    let less_files : place < length files = omega arith in
-    let pushed : map table_of c.push.new.self.items ≡ map table_of old ++ (table_of t ∷ []) =
-    ap (λ (ts : List Table). map table_of ts) c.in-Ok-push.ensures.items ∙ map-append table_of old (t ∷ []) in
-    let columns : length t.shape.columns.items ≡ length x.columns.items = ap (λ (s : ShapeView). length s.columns) e.shape in
-    let counted : c.len.result * c.len-in-loop-place.result ≡ length t.rows.items * length x.columns.items =
-    ap₂ (λ (n m : ℕ). n * m) (search rules) (search rules) in
-    let more : cells_in (map table_of old ++ (table_of t ∷ [])) ≡ c.loop-place.cells + c.len.result * c.len-in-loop-place.result =
-    cells_more (map table_of old) (table_of t) e.table
-    ∙ ap₂ (λ (n m : ℕ). n + length t.rows.items * m) (sym inv.cells) columns
-    ∙ ap (λ (n : ℕ). c.loop-place.cells + n) (sym counted) in
-    let room : c.loop-place.cells + c.len.result * c.len-in-loop-place.result ≤ 32000000 = rw counted e.room in
-    let shapes_more : map shape_of (take (place + 1) shapes) ≡ map shape_of (take place shapes) ++ (shape_of x ∷ []) =
-    ap (λ (xs : List TableShape). map shape_of xs) (with_before shapes place x less c.index-shapes-place.is) ∙ map-append shape_of (take place shapes) (x ∷ []) in
-    let shapes_left = ap (λ (xs : List TableShape). map shape_of xs) (with_after shapes place x less c.index-shapes-place.is) in
-    let files_left = ap contents_of (with_after files place f less_files c.index-files-place.is) in
-    let rest_shapes = map shape_of (drop (place + 1) shapes) in
-    let rest_files = contents_of (drop (place + 1) files) in
-    let reads = rw c.deref.ensures.value at e.read in
-    record {
-      tables = rw (pushed, shapes_more)
-          (tables_more (map shape_of (take place shapes)) (map table_of old) (table_of t) (shape_of x) inv.tables e.table e.shape e.few (rw more room));
-      cells = rw pushed (sym more);
-      room = room;
-      so_far = one_table _ (place + 1) c.loop-place.cells (map table_of old) (map shape_of (drop place shapes)) (contents_of (drop place files)) inv.so_far
-          (table_of t) (shape_of x) f.items rest_shapes rest_files shapes_left files_left reads
-          ∙ ap₂ (λ (ts : List TableView) (n : ℕ). after_tables ts (tables_from (place + 1 + 1) (c.loop-place.cells + n) rest_shapes rest_files)) (sym pushed) (sym counted);
-    }
+    let inside : place < length schema.shapes = omega (arith, less, ap length c.requires.shapes, length-map shapes shape_of) in
+    let less_files : place < length files = omega (arith, inside, c.requires.files) in
+    let here : shape_of x ≡ get_or schema.shapes place (shape_of x) = shape_here schema.shapes shapes place x c.requires.shapes less c.index-shapes-place.is in
+    let is_shape : IsShape (shape_of x) = subst IsShape (sym here) (All-get_or IsShape schema.shapes place (shape_of x) inside c.requires.schema.shapes) in
+    let at : slice_get schema.cuts (length old) ≡ Some (cut_of c.cut-cut.result.now) =
+    subst (λ (i : ℕ). slice_get schema.cuts i ≡ Some (cut_of c.cut-cut.result.now)) (sym so_far.count) c.cut-cut.ensures.value in
+    let reads = rw c.deref.ensures.value at c.in_ok-table.ensures.read in
+    let rows : c.len.result ≡ length t.spots.items = search rules in
+    let columns : c.len-in-loop-place.result ≡ length x.columns.items = search rules in
+    let counted : cells + length t.spots.items * length x.columns.items ≡ cells + c.len.result * c.len-in-loop-place.result =
+    ap₂ (λ (n m : ℕ). cells + n * m) (sym rows) (sym columns) in
+    let more = tables_so_far-more _ schema.cuts (take place schema.shapes) (drop place schema.shapes) (drop (place + 1) schema.shapes) (contents_of (drop place files))
+    (contents_of (drop (place + 1) files)) (place + 1) cells c.loop-place.notes c.read_table.new.notes old (shape_of x) f.items (cut_of c.cut-cut.result.now) t so_far.so_far
+    (with_after schema.shapes place (shape_of x) inside here) (ap contents_of (with_after files place f less_files c.index-files-place.is)) reads at is_shape.kinds c.in_ok-table.ensures.few
+    c.in_ok-table.ensures.room in
+    rw (c.in-Ok-push.ensures.items, with_before schema.shapes place (shape_of x) inside here, ← counted) (record {
+      count = omega (arith, length-append old (t ∷ []), so_far.count);
+      room = c.in_ok-table.ensures.room;
+      so_far = more;
+    })

@@ -1,45 +1,28 @@
-use Rattle.std.proofs.Common.{[], rules, ◌<◌, ap, arith, length}
+use Rattle.std.proofs.Common.{◌≡◌, ◌<◌, ◌∙◌, ◌++◌, ◌∷◌, [], ℕ, ap, length, refl, set, subst, sym}
 use Rattle.std.proofs.lemmas.List.{get_or_read}
-use Rattle.pdq_schema.specs.Schemas.{cut_of}
-use Rattle.pdq_table.proofs.Layouts.{cut_more, few_rows, fragments_pushed, rows_more, spots_pushed}
+use Rattle.pdq_value.specs.PlainTable.{most_rows}
+use Rattle.pdq_table.specs.Layout.{words_at}
+use Rattle.pdq_table.specs.Words.{FragmentView, no_rows, with_row}
 use Rattle.pdq_table.proofs.stored_table.StoredTable.push.Goals as goal
 
 pub push-requires : goal.push-requires
 push-requires c =
     let fs = c.args.self.now.fragments.items in
-    let n = c.fragment_number-number.result in
-    let within : n < length fs = omega (arith, c.fragment_number-number.ensures.within, c.requires.cut.count) in
+    let n = c.args.number in
+    let read : c.index_mut-fragment.result.now ≡ words_at fs n = get_or_read fs n c.index_mut-fragment.result.now c.requires.fragment c.index_mut-fragment.ensures.value (no_rows 0) in
     record {
-      few = omega (
-        arith,
-        ap length (get_or_read fs n c.index_mut-fragment.result.now within c.index_mut-fragment.ensures.value []),
-        few_rows (cut_of c.args.cut.now) fs c.args.self.now.spots.items n c.requires.cut within,
-        c.requires.few,
-      );
+      few = subst (λ (f : FragmentView). length f.rows < most_rows) (sym read) c.requires.few;
+      width = sym (ap (λ (f : FragmentView). f.width) read ∙ c.requires.width);
     }
 
-pub returns-clause-rows : goal.returns-clause-rows
-returns-clause-rows c =
+pub returns-clause-pushed : goal.returns-clause-pushed
+returns-clause-pushed c =
     let fs = c.args.self.now.fragments.items in
-    let n = c.fragment_number-number.result in
-    let within : n < length fs = omega (arith, c.fragment_number-number.ensures.within, c.requires.cut.count) in
-    let before = c.index_mut-fragment.result.now in
-    rw (
-      fragments_pushed fs n c.args.row before c.push.new.self within c.index_mut-fragment.ensures.value c.in_ok-push.ensures.value,
-      spots_pushed fs n c.len-place.result before c.args.self.now.spots.items c.push-2.new.self.items within c.index_mut-fragment.ensures.value
-          c.len-place.ensures.value c.in-Ok.ensures.items,
-    )
-    (rows_more fs c.args.self.now.spots.items n c.args.row within c.requires.cut.held)
-
-pub returns-clause-cut : goal.returns-clause-cut
-returns-clause-cut c =
-    let fs = c.args.self.now.fragments.items in
-    let n = c.fragment_number-number.result in
-    let within : n < length fs = omega (arith, c.fragment_number-number.ensures.within, c.requires.cut.count) in
-    let before = c.index_mut-fragment.result.now in
-    rw (
-      fragments_pushed fs n c.args.row before c.push.new.self within c.index_mut-fragment.ensures.value c.in_ok-push.ensures.value,
-      spots_pushed fs n c.len-place.result before c.args.self.now.spots.items c.push-2.new.self.items within c.index_mut-fragment.ensures.value
-          c.len-place.ensures.value c.in-Ok.ensures.items,
-    )
-    (cut_more (cut_of c.args.cut.now) fs c.args.self.now.spots.items n c.args.row c.requires.cut within (search rules))
+    let n = c.args.number in
+    let read : c.index_mut-fragment.result.now ≡ words_at fs n = get_or_read fs n c.index_mut-fragment.result.now c.requires.fragment c.index_mut-fragment.ensures.value (no_rows 0) in
+    record {
+      shape = refl;
+      fragments = ap (set fs n) (c.in_ok-push.ensures.value ∙ ap (λ (f : FragmentView). with_row f c.args.words.now) read);
+      spots = c.in-Ok.ensures.items
+          ∙ ap (λ (p : ℕ). c.args.self.now.spots.items ++ record { fragment = n; place = p } ∷ []) (c.len-place.ensures.value ∙ ap (λ (f : FragmentView). length f.rows) read);
+    }
