@@ -4,3 +4,4 @@ pub mod Meaning
 pub mod Choosing
 pub mod Keeping
 pub mod Stepping
+pub mod Samples

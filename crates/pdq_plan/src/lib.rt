@@ -7,6 +7,8 @@ mod laws;
 mod making;
 mod order;
 mod shape;
+#[cfg(test)]
+mod tests;
 
 pub use laws::{plans_mean_the_answer, plans_take_each_table};
 pub use making::plan;
