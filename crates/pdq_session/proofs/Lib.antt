@@ -1,3 +1,9 @@
+pub mod ActiveLists
+pub mod Standing
+pub mod Saying
+pub mod Changing
+pub mod Unasked
+pub mod Answering
 pub mod LegalScripts
 pub mod PrintedScripts
 pub mod Splitting
@@ -6,3 +12,4 @@ pub mod Running
 pub mod Growing
 pub mod Turning
 pub mod Starting
+pub mod Replying

@@ -12,7 +12,8 @@ use Rattle.pdq_session.specs.Commands.{line_of}
 use Rattle.pdq_session.specs.Replies.{fault_text}
 use Rattle.pdq_session.specs.declared.lines.LineOutcome.{LineOutcome}
 use Rattle.pdq_session.specs.Reading.{Reader, bytes_of, decided, GivesLine}
-use Rattle.pdq_session.specs.ScriptTranscript.{Failures, Out, ScriptState, AtFault, after, ended, fails_later, fails_now, fault_at, fault_of, run_lines, script_step, unless_fault}
+use Rattle.pdq_session.specs.ScriptStates.{ScriptState}
+use Rattle.pdq_session.specs.ScriptTranscript.{Failures, Out, AtFault, after, ended, fails_later, fails_now, fault_at, fault_of, run_lines, script_step, unless_fault}
 use Rattle.pdq_session.proofs.Splitting.{IsOpenLine, not_same, open_before_end, before_end-end, before_end-other, lt_suc, lt_zero}
 
 -- a line and its end
@@ -26,17 +27,17 @@ lines_of-last b [] is_open = rw (not_same b 10 is_open.0) refl
 lines_of-last b (c ∷ line) is_open = rw (not_same b 10 is_open.0, lines_of-last c line is_open.1) refl
 
 -- within the limits, a line's fault is that of its command
-fault_within : (before : ℕ) (line : InputLine) → is_past_input before line ≡ false → is_too_long line ≡ false → fault_at before line ≡ fault_of (line_of (without_return line.bytes))
-fault_within before line within short = rw (within, short) refl
+fault_within : (s : ScriptState) (before : ℕ) (line : InputLine) → is_past_input before line ≡ false → is_too_long line ≡ false → fault_at s before line ≡ fault_of s.asked (line_of (without_return line.bytes))
+fault_within s before line within short = rw (within, short) refl
 
 -- what the first line, with its end, makes the script write
 abbrev pub rest_after : ScriptState → List ℕ → ℕ → Failures → List InputLine → Out
-rest_after s says before failed lines = unless_fault s (fault_of (line_of says)) (after (script_step s (fails_now failed) (line_of says)).text (run_lines (script_step s (fails_now failed) (line_of says)).state before (fails_later failed) lines))
+rest_after s says before failed lines = unless_fault s (fault_of s.asked (line_of says)) (after (script_step s (fails_now failed) (line_of says)).text (run_lines (script_step s (fails_now failed) (line_of says)).state before (fails_later failed) lines))
 
 run_line : (s : ScriptState) (before : ℕ) (failed : Failures) (line : InputLine) (lines : List InputLine) → is_past_input before line ≡ false → is_too_long line ≡ false →
     run_lines s before failed (line ∷ lines) ≡ rest_after s (without_return line.bytes) (before + size_of line) failed lines
 unfolding run_lines
-run_line s before failed line lines within short = rw (fault_within before line within short) refl
+run_line s before failed line lines within short = rw (fault_within s before line within short) refl
 
 run_given : (s : ScriptState) (before : ℕ) (failed : Failures) (line more : List ℕ) → IsOpenLine line → is_past_input before (record { bytes = line; ended = true }) ≡ false → is_too_long (record { bytes = line; ended = true }) ≡ false →
     run_lines s before failed (lines_of (line ++ 10 ∷ more)) ≡ rest_after s (without_return line) (before + (length line + 1)) failed (lines_of more)
@@ -161,7 +162,7 @@ extends [] more = record { longer = omega arith; larger = omega arith }
 extends (b ∷ bytes) more = extends_by b bytes more (b == 10) refl (extends bytes more)
 
 -- a first line with a fault ends the script
-pub run_fault : (s : ScriptState) (before : ℕ) (failed : Failures) (lines : List InputLine) (reason : LineFault) → 0 < size_of (first_of lines) → fault_at before (first_of lines) ≡ Some reason → run_lines s before failed lines ≡ record { text = fault_text reason; ending = AtFault; state = s }
+pub run_fault : (s : ScriptState) (before : ℕ) (failed : Failures) (lines : List InputLine) (reason : LineFault) → 0 < size_of (first_of lines) → fault_at s before (first_of lines) ≡ Some reason → run_lines s before failed lines ≡ record { text = fault_text reason; ending = AtFault; state = s }
 unfolding run_lines
 run_fault s before failed [] reason some is = absurd (omega arith)
 run_fault s before failed (line ∷ lines) reason some is = rw is refl
@@ -209,7 +210,7 @@ run_too_long s before failed bytes more is =
     let size_goes : 8193 ≤ size_of goes = omega arith in
     let within : is_past_input before goes ≡ false = past_long before (size_of was) (size_of goes) size_was size_goes found.0 in
     let too_long : is_too_long goes ≡ true = long_more (length was.bytes) (length goes.bytes) longer found.1 in
-    let faults : fault_at before goes ≡ Some fault.LineTooLong = rw (within, too_long) refl in
+    let faults : fault_at s before goes ≡ Some fault.LineTooLong = rw (within, too_long) refl in
     run_fault s before failed (lines_of (bytes ++ more)) fault.LineTooLong (omega arith) faults
 
 -- an input that is too long ends the script, whatever comes
@@ -221,7 +222,7 @@ run_past_input s before failed bytes more early is =
     let e = extends bytes more in
     let past : is_past_input before goes ≡ true = past_more before (size_of was) (size_of goes) e.larger found in
     let some : 0 < size_of goes = past_some before (size_of was) (size_of goes) early e.larger found in
-    let faults : fault_at before goes ≡ Some fault.InputTooLong = rw past refl in
+    let faults : fault_at s before goes ≡ Some fault.InputTooLong = rw past refl in
     run_fault s before failed (lines_of (bytes ++ more)) fault.InputTooLong some faults
 
 -- no line is left

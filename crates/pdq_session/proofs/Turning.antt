@@ -13,11 +13,12 @@ use Rattle.pdq_session.specs.Commands.{line_of}
 use Rattle.pdq_base.specs.Lines.{lines_of}
 use Rattle.pdq_session.specs.Reading.{Reader, GivesLine, Reads, decided, remaining}
 use Rattle.pdq_session.specs.Replies.{fault_text}
-use Rattle.pdq_session.specs.ScriptTranscript.{Failures, Out, ScriptState, failures_in, AtFault, after, fault_of, run_lines, script_step, unless_fault}
+use Rattle.pdq_session.specs.ScriptStates.{ScriptState}
+use Rattle.pdq_session.specs.ScriptTranscript.{Failures, Out, failures_in, AtFault, after, fault_of, run_lines, script_step, unless_fault}
 use Rattle.pdq_session.specs.Progress.{Progress, progress, rest_of, SourceView, CanFollow, Came, GoesOn, Begins, Played, PlayedAll, PlayedSome, PlayedUnread, Turns, Answered, Answers, Refuses, Wants}
 use Rattle.pdq_session.proofs.Giving.{took_then}
 use Rattle.pdq_session.proofs.Running.{rest_after, run_after_line, run_after_last, run_too_long, run_past_input, run_none}
-use Rattle.pdq_session.proofs.Growing.{begins_is, begins_same, grown_line, grown_run}
+use Rattle.pdq_session.proofs.Growing.{begins_is, begins_same, begins_then, grown_line, grown_run}
 
 -- what is told grew by nothing, and by one piece and then another
 grows_none : (sink : Option (List ℕ)) → Grows sink sink []
@@ -98,7 +99,7 @@ refused_turn turn.WriteFault reason a b w0 w1 old new bytes came leads refuses s
 }
 
 -- a line with a fault leads to it
-fault_rest_by : (s : ScriptState) (before : ℕ) (failed : Failures) (bytes more : List ℕ) (r : Reader) (reason : LineFault) (last : Bool) → r.last ≡ last → GivesLine before bytes r → (last ≡ true → more ≡ []) → fault_of (line_of r.line) ≡ Some reason →
+fault_rest_by : (s : ScriptState) (before : ℕ) (failed : Failures) (bytes more : List ℕ) (r : Reader) (reason : LineFault) (last : Bool) → r.last ≡ last → GivesLine before bytes r → (last ≡ true → more ≡ []) → fault_of s.asked (line_of r.line) ≡ Some reason →
     run_lines s before failed (lines_of (bytes ++ more)) ≡ record { text = fault_text reason; ending = AtFault; state = s }
 fault_rest_by s before failed bytes more r reason false goes gives none bad = run_after_line s before failed bytes more r gives goes ∙ rw bad refl
 fault_rest_by s before failed bytes more r reason true ends gives none bad = ap (λ xs. run_lines s before failed (lines_of (bytes ++ xs))) (none refl) ∙ ap (λ xs. run_lines s before failed (lines_of xs)) (append-nil bytes) ∙ run_after_last s before failed bytes r gives ends ∙ rw bad refl
@@ -112,7 +113,7 @@ pub none_follows : (a b : SourceView) (more : List ℕ) → IsTrue b.ended → r
 none_follows a b more is_ended none (inl told) = told ∙ none
 none_follows a b more is_ended none (inr untold) = untold is_ended
 
-leads_to_line : (a b : SourceView) (old : Progress) (r : Reader) (bytes : List ℕ) (reason : LineFault) → GivesLine old.reader.given (old.reader.buffered ++ bytes) r → (IsTrue r.last → IsTrue b.ended) → (IsTrue r.last → remaining a.left b.left ≡ []) → fault_of (line_of r.line) ≡ Some reason → LeadsTo a b old bytes reason
+leads_to_line : (a b : SourceView) (old : Progress) (r : Reader) (bytes : List ℕ) (reason : LineFault) → GivesLine old.reader.given (old.reader.buffered ++ bytes) r → (IsTrue r.last → IsTrue b.ended) → (IsTrue r.last → remaining a.left b.left ≡ []) → fault_of old.state.asked (line_of r.line) ≡ Some reason → LeadsTo a b old bytes reason
 leads_to_line a b old r bytes reason gives ends none bad = record {
   each = λ more failed can. ap (λ xs. run_lines old.state old.reader.given failed (lines_of xs)) (sym (append_assoc old.reader.buffered bytes more))
       ∙ fault_rest_by old.state old.reader.given failed (old.reader.buffered ++ bytes) more r reason r.last refl gives (λ last. none_follows a b more (ends (is_true r.last last)) (none (is_true r.last last)) can) bad;
@@ -167,8 +168,7 @@ wanting_turn a b w0 w1 old new r bytes came gives ends none wants = record {
   begins = λ more later can. begins_none (rest_of old (bytes ++ more) (false ∷ later)).text;
   entries = λ more later can.
       let now : ScriptState = (script_step old.state false (line_of r.line)).state in
-      let P : ScriptState → Type 0 = λ s. Begins (rest_of old (bytes ++ more) (false ∷ later)).state.history s.history in
-      subst P (sym wants.state)
+      begins_then new.state.history now.history (rest_of old (bytes ++ more) (false ∷ later)).state.history wants.entries
       (begins_is now.history (run_lines old.state old.reader.given (false ∷ later) (lines_of ((old.reader.buffered ++ bytes) ++ more))).state.history (rest_of old (bytes ++ more) (false ∷ later)).state.history
       (ap (λ xs. (run_lines old.state old.reader.given (false ∷ later) (lines_of xs)).state.history) (sym (append_assoc old.reader.buffered bytes more)))
       (rest_by_line old.state old.reader.given later (old.reader.buffered ++ bytes) more r r.last refl gives (λ last. none_follows a b more (ends (is_true r.last last)) (none (is_true r.last last)) can)));

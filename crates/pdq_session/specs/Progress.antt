@@ -1,17 +1,20 @@
 -- How far a script has come, and what it took and wrote on the way.
 use Rattle.std.specs.Prelude.{ℕ, ◌≡◌, ◌⊎◌, List, [], ◌++◌, Bool, true, false, Option, Some, None, IsTrue, ◌≤◌}
 use Rattle.pdq_edge.specs.Bytes.{Grows, GrewSome}
-use Rattle.pdq_model.specs.Step.{is_open}
 use Rattle.pdq_session.specs.declared.scripts.Turn.{Turn}
 use Rattle.pdq_session.specs.declared.scripts.Turn.TheVariants as turn
 use Rattle.pdq_session.specs.declared.scripts.ScriptEnd.{ScriptEnd}
 use Rattle.pdq_session.specs.declared.scripts.ScriptEnd.TheVariants as script_end
 use Rattle.pdq_session.specs.declared.replies.LineFault.{LineFault}
+use Rattle.pdq_session.specs.declared.script_lines.Unread.{Unread}
+use Rattle.pdq_session.specs.declared.script_lines.Unread.TheVariants as unread
 use Rattle.pdq_session.specs.Commands.{line_of}
 use Rattle.pdq_base.specs.Lines.{lines_of}
+use Rattle.pdq_gate.specs.ManagerView.{ManagerView}
 use Rattle.pdq_session.specs.Replies.{fault_text}
 use Rattle.pdq_session.specs.Reading.{Reader, Took, decided, remaining}
-use Rattle.pdq_session.specs.ScriptTranscript.{Failures, Out, failures_in, ScriptEnding, ScriptState, AtEnd, AtFault, after, fault_of, own_session, run_lines, script_step}
+use Rattle.pdq_session.specs.ScriptStates.{IsStanding, ScriptState, SessionsView, script_state}
+use Rattle.pdq_session.specs.ScriptTranscript.{Failures, Out, failures_in, ScriptEnding, AtEnd, AtFault, after, fault_of, run_lines, script_step}
 
 -- what the script keeps, the reader of lines, and the replies that are not yet written
 pub record Progress : Type 0 where
@@ -28,7 +31,7 @@ rest_of p bytes failed = after p.replies (run_lines p.state p.reader.given faile
 
 -- more lines can be run
 pub record IsGoing (p : Progress) : Type 0 where
-  pub session : IsTrue (is_open p.state.manager own_session)
+  pub standing : IsStanding p.state
   pub early : p.reader.given ≤ 16777216
 
 -- these bytes came, a store failed or not at each of the lines that were run, this text was written, and the script goes on from there
@@ -171,11 +174,11 @@ Turns turn.Memory before now written0 written old new = PlayedSome before now wr
 
 -- a line was answered, and is not refused; no store failed at it
 pub record Answered (says : List ℕ) (old new : Progress) : Type 0 where
-  pub good : fault_of (line_of says) ≡ None
+  pub good : fault_of old.state.asked (line_of says) ≡ None
   pub state : new.state ≡ (script_step old.state false (line_of says)).state
   pub replies : new.replies ≡ old.replies ++ (script_step old.state false (line_of says)).text
   pub reader : new.reader ≡ old.reader
-  pub session : IsTrue (is_open new.state.manager own_session)
+  pub standing : IsStanding new.state
 
 -- how the line of a fault is written behind these replies: whole, a first part of it, or nothing
 abbrev pub Refuses : Turn → LineFault → Option (List ℕ) → Option (List ℕ) → List ℕ → Type 0
@@ -186,17 +189,22 @@ Refuses turn.ReadFault reason written0 written replies = ⊥
 Refuses turn.WriteFault reason written0 written replies = GrewSome written0 written (replies ++ fault_text reason)
 Refuses turn.Memory reason written0 written replies = written ≡ written0
 
+-- how a line is answered that is not run
+abbrev pub RefusesUnread : Turn → Unread → Option (List ℕ) → Option (List ℕ) → List ℕ → Type 0
+RefusesUnread which unread.Memory written0 written replies = (which ≡ turn.Memory) × (written ≡ written0)
+RefusesUnread which (unread.Fault reason) written0 written replies = Refuses which reason written0 written replies
+
 -- a line is refused
 pub record IsRefused (which : Turn) (says : List ℕ) (written0 written : Option (List ℕ)) (old new : Progress) : Type 0 where
   pub reason : LineFault
-  pub bad : fault_of (line_of says) ≡ Some reason
+  pub bad : fault_of old.state.asked (line_of says) ≡ Some reason
   pub refuses : Refuses which reason written0 written old.replies
   pub state : new.state ≡ old.state
 
--- memory was wanting at a line: nothing was written, and what the line does to the manager was done, or it is refused
+-- memory was wanting at a line: nothing was written, and the entries that were made begin those of the line
 pub record Wants (says : List ℕ) (written0 written : Option (List ℕ)) (old new : Progress) : Type 0 where
   pub unwritten : written ≡ written0
-  pub state : new.state ≡ (script_step old.state false (line_of says)).state
+  pub entries : Begins (script_step old.state false (line_of says)).state.history new.state.history
 
 -- how a line is answered that says this, and that the end of the input ended or not
 abbrev pub Answers : Turn → List ℕ → Bool → Option (List ℕ) → Option (List ℕ) → Progress → Progress → Type 0
@@ -228,3 +236,10 @@ Ends script_end.BadScript before now written0 written out state = WroteScript be
 Ends script_end.ReadFault before now written0 written out state = WroteSome before now written0 written out state
 Ends script_end.WriteFault before now written0 written out state = WroteSome before now written0 written out state
 Ends script_end.Memory before now written0 written out state = WroteSome before now written0 written out state
+
+-- how a script without tables ends, and what it leaves: its manager, and sessions of its own
+pub record EndsOn (end : ScriptEnd) (before now : SourceView) (written0 written : Option (List ℕ)) (out : Script) (m : ManagerView) : Type 0 where
+  pub sessions : SessionsView
+  pub ends : Ends end before now written0 written out (script_state m sessions)
+  -- before the source is read, all that its lines so far are answered was written
+  pub answered : end ≡ script_end.ReadFault → WroteAnswers before now written0 written out (script_state m sessions)

@@ -1,12 +1,13 @@
 -- What is true of the manager and of its journal after each line of a script.
-use Rattle.std.specs.Prelude.{ℕ, ◌≡◌, List, [], ◌∷◌, ◌++◌}
+use Rattle.std.specs.Prelude.{ℕ, ◌≡◌, ◌≤◌, List, [], ◌∷◌, ◌++◌}
 use Rattle.pdq_model.specs.declared.events.Entry.{Entry}
 use Rattle.pdq_model.specs.Configuration.{Configuration, IsValid}
 use Rattle.pdq_model.specs.History.{IsLegal, replay}
 use Rattle.pdq_model.specs.Laws.{IsWithinLimits, IsAtRest, IsOvertakenLittle, AdmitsHeads}
 use Rattle.pdq_base.specs.Lines.{InputLine, without_return}
 use Rattle.pdq_session.specs.Commands.{line_of}
-use Rattle.pdq_session.specs.ScriptTranscript.{Failures, ScriptState, fails_later, fails_now, script_step, script_transcript, starting_state}
+use Rattle.pdq_session.specs.ScriptStates.{AreScannable, AskedTables, ScriptState, starting_state}
+use Rattle.pdq_session.specs.ScriptTranscript.{Failures, fails_later, fails_now, script_step, script_transcript}
 
 -- the state after these lines are run one after another, where stores fail at some of them; a line that is refused leaves it as it is
 abbrev pub state_after_lines : ScriptState → Failures → List InputLine → ScriptState
@@ -29,8 +30,8 @@ pub record KeepsRules (c : Configuration) (s : ScriptState) : Type 0 where
 
 -- whatever lines a script has, the manager keeps its rules after them; the lines up to any one are lines too, so it keeps them after each
 abbrev pub ScriptsKeepRules : Type 0
-ScriptsKeepRules = (c : Configuration) (failed : Failures) (lines : List InputLine) → IsValid c → KeepsRules c (state_after_lines (starting_state c) failed lines)
+ScriptsKeepRules = (asked : AskedTables) (c : Configuration) (opening : ℕ) (failed : Failures) (lines : List InputLine) → IsValid c → AreScannable asked → opening ≤ 100 → KeepsRules c (state_after_lines (starting_state asked c opening) failed lines)
 
 -- whatever the bytes of a script, what it leaves, at the end of its input or at a line that is refused, keeps the rules
 abbrev pub TranscriptsKeepRules : Type 0
-TranscriptsKeepRules = (c : Configuration) (bytes : List ℕ) (failed : Failures) → IsValid c → KeepsRules c (script_transcript c bytes failed).state
+TranscriptsKeepRules = (asked : AskedTables) (c : Configuration) (opening : ℕ) (bytes : List ℕ) (failed : Failures) → IsValid c → AreScannable asked → opening ≤ 100 → KeepsRules c (script_transcript asked c opening bytes failed).state

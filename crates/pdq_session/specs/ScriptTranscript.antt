@@ -1,47 +1,27 @@
 -- What a script writes, how it ends, and the state that it leaves. It is a function of the bytes and of the lines at which a store failed.
-use Rattle.std.specs.Prelude.{ℕ, ◌+◌, List, [], ◌∷◌, ◌++◌, Bool, true, false, not, ◌==◌, if◌then◌else◌, count_by, Option, Some, None}
-use Rattle.pdq_model.specs.declared.events.Answer.{Answer}
-use Rattle.pdq_model.specs.declared.events.Entry.{Entry}
-use Rattle.pdq_model.specs.declared.events.Event.{Event}
-use Rattle.pdq_model.specs.declared.events.Answer.TheVariants.{Entered, Waits, Refuses}
-use Rattle.pdq_model.specs.declared.events.Event.TheVariants.{OpenSession, Submit, Collect, Finish}
-use Rattle.pdq_model.specs.declared.events.How.{How}
-use Rattle.pdq_model.specs.declared.events.How.TheVariants.{Done, Stopped}
-use Rattle.pdq_model.specs.declared.events.Reply.TheVariants as reply
-use Rattle.pdq_model.specs.declared.events.Why.TheVariants as why
+use Rattle.std.specs.Prelude.{ℕ, ◌+◌, List, [], ◌∷◌, ◌++◌, Bool, true, false, count_by, if◌then◌else◌, map, Option, Some, None, Result, Ok, Err}
 use Rattle.pdq_model.specs.Configuration.{Configuration}
-use Rattle.pdq_model.specs.State.{State, next_session, opening_state}
-use Rattle.pdq_model.specs.Step.{admitted_after, decide, next}
-use Rattle.pdq_model.specs.History.{may_collect}
-use Rattle.pdq_gate.specs.Journal.{history_after}
-use Rattle.pdq_gate.specs.ManagerView.{ManagerView}
-use Rattle.pdq_gate.specs.Queries.{session_of}
-use Rattle.pdq_session.specs.declared.commands.Command.{Command}
-use Rattle.pdq_session.specs.declared.commands.Command.TheVariants as command
+use Rattle.pdq_value.specs.Tables.{TableView}
+use Rattle.pdq_query.specs.Queries.{QueryView}
+use Rattle.pdq_sql.specs.declared.faults.SqlFault.{SqlFault}
+use Rattle.pdq_sql.specs.declared.faults.SqlWhy.TheVariants.{BadLine}
+use Rattle.pdq_sql.specs.Commands.{CommandView}
+use Rattle.pdq_sql.specs.Commands as command
+use Rattle.pdq_sql.specs.Asts.{AstView}
+use Rattle.pdq_sql.specs.Resolution.{resolution_of}
 use Rattle.pdq_session.specs.declared.replies.LineFault.{LineFault}
 use Rattle.pdq_session.specs.declared.replies.LineFault.TheVariants as fault
-use Rattle.pdq_session.specs.declared.replies.Refusal.{Refusal}
-use Rattle.pdq_session.specs.declared.replies.Refusal.TheVariants as refusal
 use Rattle.pdq_base.specs.Lines.{InputLine, lines_of, size_of, without_return}
 use Rattle.pdq_session.specs.Limits.{is_past_input, is_too_long}
-use Rattle.pdq_session.specs.Commands.{line_of}
-use Rattle.pdq_session.specs.Replies.{admits_text, cancelled_text, done_text, end_text, fault_text, placed_text, refusal_text, session_text, stopped_text}
+use Rattle.pdq_session.specs.Commands.{Said, level_priority, line_of}
+use Rattle.pdq_session.specs.ScriptStates.{AskedTables, ScriptState, own_session, starting_state}
+use Rattle.pdq_session.specs.ScriptSteps.{Stepped, cancel_step, claim_step, close_step, done_step, onmode_step, onstat_step, open_step, query_step, run_step, set_step, silent_step, use_step}
+use Rattle.pdq_session.specs.Replies.{end_text, fault_text, session_text}
 
 -- how a script ends: at the end of its input, or at a line that is refused
 pub data ScriptEnding : Type 0 where
   AtEnd : ScriptEnding
   AtFault : ScriptEnding
-
--- what a script keeps from line to line
-pub record ScriptState : Type 0 where
-  -- the state of the manager
-  pub manager : State
-  -- the entries of its journal, in order
-  pub history : List Entry
-
--- what a script keeps, read off its manager
-abbrev pub script_state : ManagerView → ScriptState
-script_state m = record { manager = m.state; history = m.history }
 
 -- whether a store failed at each line, in the order of the lines; at a line beyond these none did
 abbrev pub Failures : Type 0
@@ -71,85 +51,55 @@ pub record Out : Type 0 where
 abbrev pub after : List ℕ → Out → Out
 after text rest = record { text = text ++ rest.text; ending = rest.ending; state = rest.state }
 
--- the reply to one line, and the state after it
-pub record Stepped : Type 0 where
-  pub text : List ℕ
-  pub state : ScriptState
+-- the query that a select asks for, over the shapes of these tables
+abbrev pub query_asked : AskedTables → AstView → Result QueryView SqlFault
+query_asked asked ast = resolution_of (map (λ (t : TableView). t.shape) asked.tables) ast
 
--- a script's own session, an administrator's, opened before the first line
-abbrev pub own_session : ℕ
-own_session = 1
+-- what a command does, at which a store failed or not
+unfoldable pub command_step : ScriptState → Bool → CommandView → Stepped
+command_step s failed (command.SetPriority level) = set_step s (level_priority s.sessions.opening level)
+command_step s failed (command.Query ast) = query_step s (query_asked s.asked ast)
+command_step s failed (command.Cancel id) = cancel_step s id
+command_step s failed command.Onstat = onstat_step s
+command_step s failed (command.Onmode letter v) = onmode_step s letter v
+command_step s failed (command.Claim p f) = claim_step s p f
+command_step s failed (command.Run id) = run_step s failed id
+command_step s failed (command.Done id) = done_step s id
+command_step s failed (command.OpenSession admin) = open_step s admin
+command_step s failed (command.Choose session) = use_step s session
+command_step s failed (command.CloseSession session) = close_step s session
+command_step s failed command.Hello = silent_step s
+command_step s failed command.Admin = silent_step s
+command_step s failed command.Quit = silent_step s
+command_step s failed command.Shutdown = silent_step s
 
--- after an event of this session: what the manager makes of it, and the entry that it gets
-abbrev pub after_event : ScriptState → ℕ → Event → ScriptState
-after_event s who event = record { manager = next s.manager who event; history = history_after s.history who event (decide s.manager who event) }
+-- the reply to a line, and the state after it; a line that is refused leaves all as it is
+abbrev pub script_step : ScriptState → Bool → Said → Stepped
+script_step s failed (Ok (Some c)) = command_step s failed c
+script_step s failed (Ok None) = silent_step s
+script_step s failed (Err place) = silent_step s
 
-abbrev pub refused_step : ScriptState → Refusal → Stepped
-refused_step s reason = record { text = refusal_text reason s.manager.entries; state = s }
+-- why a query ends the script, where it does
+abbrev pub fault_of_query : Result QueryView SqlFault → Option LineFault
+fault_of_query (Ok q) = None
+fault_of_query (Err e) = Some (fault.Refused e)
 
--- the reply to a claim that came to this answer; the step is the number of entries then
-abbrev pub claim_text : Answer → ℕ → List ℕ
-claim_text (Entered (reply.Placed id priority gate)) step = placed_text id step priority gate
-claim_text (Refuses reason) step = refusal_text (refusal.Manager reason) step
-claim_text other step = []
-
--- a claim submits a query, and then each query that its entry admitted has a line
-abbrev pub claim_step : ScriptState → ℕ → ℕ → Stepped
-claim_step s p f = record {
-  text = claim_text (decide s.manager own_session (Submit p f)) (next s.manager own_session (Submit p f)).entries
-      ++ admits_text (admitted_after s.manager own_session (Submit p f) []);
-  state = after_event s own_session (Submit p f);
-}
-
--- a collected query ends so, and then each query that this entry admitted has a line
-abbrev pub finished_with : List ℕ → ScriptState → ℕ → How → Stepped
-finished_with text collected id how = record {
-  text = text ++ admits_text (admitted_after collected.manager own_session (Finish id how) []);
-  state = after_event collected own_session (Finish id how);
-}
-
--- a collected query ends: it was stopped where it was cancelled before, and else it is done
-abbrev pub finish_step : ScriptState → ℕ → Option ℕ → Stepped
-finish_step collected id None = finished_with (done_text id (next collected.manager own_session (Finish id Done)).entries) collected id Done
-finish_step collected id (Some by) = finished_with (stopped_text id (next collected.manager own_session (Finish id Stopped)).entries by) collected id Stopped
-
--- the end of a query whose collection came to this answer; one that was withdrawn is collected alone
-abbrev pub collect_step : ScriptState → ℕ → Answer → Stepped
-collect_step s id (Entered (reply.Granted quanta scans priority flagged)) = finish_step (after_event s own_session (Collect id)) id flagged
-collect_step s id (Entered (reply.Cancelled by)) = record {
-  text = cancelled_text id (next s.manager own_session (Collect id)).entries by;
-  state = after_event s own_session (Collect id);
-}
-collect_step s id (Waits gate) = refused_step s refusal.NotNow
-collect_step s id other = refused_step s (refusal.Manager why.NoSuchQuery)
-
--- the end of a query is refused where no query of this number could be collected, where it is another session's, and where it waits
-abbrev pub done_step : ScriptState → ℕ → Stepped
-done_step s id =
-    if not (may_collect s.manager (session_of s.manager id) id) then refused_step s (refusal.Manager why.NoSuchQuery)
-    else if not (session_of s.manager id == own_session) then refused_step s (refusal.Manager why.NotAllowed)
-    else collect_step s id (decide s.manager own_session (Collect id))
-
--- the reply to a line that is not refused, at which a store failed or not; no line of a script without tables uses one
-unfoldable pub script_step : ScriptState → Bool → Command → Stepped
-script_step s failed (command.Claim p f) = claim_step s p f
-script_step s failed (command.Done id) = done_step s id
-script_step s failed command.Nothing = record { text = []; state = s }
-script_step s failed (command.Refused reason) = record { text = []; state = s }
+abbrev pub fault_of_command : AskedTables → CommandView → Option LineFault
+fault_of_command asked (command.Query ast) = fault_of_query (query_asked asked ast)
+fault_of_command asked other = None
 
 -- why a line ends the script, where it does
-abbrev pub fault_of : Command → Option LineFault
-fault_of (command.Refused reason) = Some reason
-fault_of command.Nothing = None
-fault_of (command.Claim p f) = None
-fault_of (command.Done id) = None
+abbrev pub fault_of : AskedTables → Said → Option LineFault
+fault_of asked (Ok (Some c)) = fault_of_command asked c
+fault_of asked (Ok None) = None
+fault_of asked (Err place) = Some (fault.Refused (record { why = BadLine; place = place }))
 
 -- the same, where so many bytes stand before the line: the limits are asked first
-abbrev pub fault_at : ℕ → InputLine → Option LineFault
-fault_at before line =
+abbrev pub fault_at : ScriptState → ℕ → InputLine → Option LineFault
+fault_at s before line =
     if is_past_input before line then Some fault.InputTooLong
     else if is_too_long line then Some fault.LineTooLong
-    else fault_of (line_of (without_return line.bytes))
+    else fault_of s.asked (line_of (without_return line.bytes))
 
 -- the end of a script at the end of its input
 abbrev pub ended : ScriptState → Out
@@ -164,18 +114,10 @@ unless_fault s (Some reason) out = record { text = fault_text reason; ending = A
 unfoldable pub run_lines : ScriptState → ℕ → Failures → List InputLine → Out
 run_lines s before failed [] = ended s
 run_lines s before failed (line ∷ lines) =
-    unless_fault s (fault_at before line)
+    unless_fault s (fault_at s before line)
     (after (script_step s (fails_now failed) (line_of (without_return line.bytes))).text
     (run_lines (script_step s (fails_now failed) (line_of (without_return line.bytes))).state (before + size_of line) (fails_later failed) lines))
 
--- a script over a manager of this configuration without an entry
-abbrev pub opening_script : Configuration → ScriptState
-opening_script c = record { manager = opening_state c; history = [] }
-
--- the state in which the first line is run
-abbrev pub starting_state : Configuration → ScriptState
-starting_state c = after_event (opening_script c) (next_session (opening_state c)) (OpenSession true)
-
--- what a script of these bytes writes, where stores failed at these lines
-abbrev pub script_transcript : Configuration → List ℕ → Failures → Out
-script_transcript c bytes failed = after (session_text own_session true (starting_state c).manager.entries) (run_lines (starting_state c) 0 failed (lines_of bytes))
+-- what a script of these bytes writes over these tables, where this is the opening priority and stores failed at these lines
+abbrev pub script_transcript : AskedTables → Configuration → ℕ → List ℕ → Failures → Out
+script_transcript asked c opening bytes failed = after (session_text own_session true (starting_state asked c opening).manager.entries) (run_lines (starting_state asked c opening) 0 failed (lines_of bytes))

@@ -3,10 +3,13 @@
 #![tactic(auto)]
 
 mod answers;
-mod commands;
+mod changes;
 mod lines;
 mod replies;
+mod script_commands;
 mod script_laws;
+mod script_lines;
+mod script_sessions;
 mod scripts;
 #[cfg(test)]
 mod tests;

@@ -1,17 +1,18 @@
 //! The text of the replies and of the refusals.
 ghost use Rattle.std.specs.Prelude.{◌≡◌, ◌++◌, OnOk, flat_map, string_bytes};
-ghost use Rattle.pdq_session.specs.Replies.{admit_text, admits_text, cancelled_text, done_text, end_line, fault_text, placed_text, refusal_number, refusal_text, refusal_words, role_of, session_text, stopped_text, why_number, why_words};
+ghost use Rattle.pdq_session.specs.Replies.{admit_text, admits_text, cancelled_text, changed_text, chosen_text, closed_text, done_text, end_line, fault_text, flagged_text, pending_text, placed_text, priority_text, refusal_number, refusal_text, refusal_words, role_of, session_text, stopped_text, tells_step, why_number, why_words, withdrawn_text};
 
+use crate::answers::add_refused_select;
+use pdq_base::Memory;
 use pdq_model::{Admit, Why};
+use pdq_sql::SqlFault;
 use std::alloc::{AllocError, Global};
 
 /// Why a line ends the script.
 #[derive(Clone, Copy)]
 pub(crate) enum LineFault {
-    /// The line has no form of a command.
-    BadLine,
-    /// A claim's priority is above 100, or its number of fragments is not 1 to 16.
-    OutOfRange,
+    /// The line is none of the grammar, or its query does not resolve.
+    Refused(SqlFault),
     /// 8,193 bytes came without a line end.
     LineTooLong,
     /// Byte 16,777,217 of the input came before the line ended.
@@ -23,8 +24,12 @@ pub(crate) enum LineFault {
 pub(crate) enum Refusal {
     /// For a reason of the manager.
     Manager(Why),
-    /// The query still waits.
+    /// No session of this number is open.
+    NoSession,
+    /// The query still waits or has no text, or the session is the current one or has a query.
     NotNow,
+    /// A priority is above 100, or a number of fragments is not 1 to 16.
+    OutOfRange,
 }
 
 fn number_of(why: Why) -> u32
@@ -63,7 +68,9 @@ impl Refusal {
     {
         match self {
             Refusal::Manager(why) => number_of(why),
+            Refusal::NoSession => 21,
             Refusal::NotNow => 22,
+            Refusal::OutOfRange => 24,
         }
     }
 
@@ -72,7 +79,19 @@ impl Refusal {
     {
         match self {
             Refusal::Manager(why) => words_of(why),
+            Refusal::NoSession => "no such session",
             Refusal::NotNow => "not now",
+            Refusal::OutOfRange => "out of range",
+        }
+    }
+
+    // Whether the refusal tells the step at which it was made.
+    fn tells_step(self) -> bool
+        ensures value { result ≡ tells_step self }
+    {
+        match self {
+            Refusal::Manager(_) | Refusal::NotNow => true,
+            Refusal::NoSession | Refusal::OutOfRange => false,
         }
     }
 }
@@ -82,6 +101,15 @@ fn add(out: &mut Vec<u8>, text: String) -> Result<(), AllocError>
 {
     out.extend_from_slice(text.as_bytes())?;
     Ok(())
+}
+
+fn add_line(out: &mut Vec<u8>, line: &[u8]) -> Result<(), Memory>
+    ensures text { OnOk result (out.new.items ≡ out.old.items ++ line.now) }
+{
+    match out.extend_from_slice(line) {
+        Ok(()) => Ok(()),
+        Err(_) => Err(Memory),
+    }
 }
 
 fn role(admin: bool) -> &'static str
@@ -105,7 +133,82 @@ pub(crate) fn add_session(
     add(out, text)
 }
 
-/// Adds the reply to a claim that was placed.
+/// Adds the reply to the choice of a session.
+pub(crate) fn add_chosen(alloc: Global, out: &mut Vec<u8>, session: u32) -> Result<(), AllocError>
+    ensures text { OnOk result (out.new.items ≡ out.old.items ++ chosen_text session) }
+{
+    let text = format!(in alloc; "SESSION {session}\n")?;
+    add(out, text)
+}
+
+/// Adds the reply to the closing of a session.
+pub(crate) fn add_closed(
+    alloc: Global,
+    out: &mut Vec<u8>,
+    session: u32,
+    step: u64,
+) -> Result<(), AllocError>
+    ensures text { OnOk result (out.new.items ≡ out.old.items ++ closed_text session step) }
+{
+    let text = format!(in alloc; "CLOSED {session} STEP {step}\n")?;
+    add(out, text)
+}
+
+/// Adds the reply to the setting of a priority.
+pub(crate) fn add_priority(
+    alloc: Global,
+    out: &mut Vec<u8>,
+    priority: u32,
+) -> Result<(), AllocError>
+    ensures text { OnOk result (out.new.items ≡ out.old.items ++ priority_text priority) }
+{
+    let text = format!(in alloc; "PRIORITY {priority}\n")?;
+    add(out, text)
+}
+
+/// Adds the reply to the cancellation of a query that waits.
+pub(crate) fn add_withdrawn(
+    alloc: Global,
+    out: &mut Vec<u8>,
+    id: u32,
+    step: u64,
+) -> Result<(), AllocError>
+    ensures text { OnOk result (out.new.items ≡ out.old.items ++ withdrawn_text id step) }
+{
+    let text = format!(in alloc; "WITHDRAWN {id} STEP {step}\n")?;
+    add(out, text)
+}
+
+/// Adds the reply to the cancellation of a query that is active.
+pub(crate) fn add_flagged(
+    alloc: Global,
+    out: &mut Vec<u8>,
+    id: u32,
+    step: u64,
+) -> Result<(), AllocError>
+    ensures text { OnOk result (out.new.items ≡ out.old.items ++ flagged_text id step) }
+{
+    let text = format!(in alloc; "FLAGGED {id} STEP {step}\n")?;
+    add(out, text)
+}
+
+/// Adds the reply to a change that was made.
+pub(crate) fn add_changed(alloc: Global, out: &mut Vec<u8>, step: u64) -> Result<(), AllocError>
+    ensures text { OnOk result (out.new.items ≡ out.old.items ++ changed_text step) }
+{
+    let text = format!(in alloc; "CHANGED STEP {step}\n")?;
+    add(out, text)
+}
+
+/// Adds the reply to a change that is pending.
+pub(crate) fn add_pending(alloc: Global, out: &mut Vec<u8>, step: u64) -> Result<(), AllocError>
+    ensures text { OnOk result (out.new.items ≡ out.old.items ++ pending_text step) }
+{
+    let text = format!(in alloc; "PENDING STEP {step}\n")?;
+    add(out, text)
+}
+
+/// Adds the reply to a query that was placed.
 pub(crate) fn add_placed(
     alloc: Global,
     out: &mut Vec<u8>,
@@ -194,22 +297,24 @@ pub(crate) fn add_refusal(
 {
     let number = refusal.number();
     let words = refusal.words();
-    let text = format!(in alloc; "ERROR {number} {words} AT STEP {step}\n")?;
-    add(out, text)
+    if refusal.tells_step() {
+        let text = format!(in alloc; "ERROR {number} {words} AT STEP {step}\n")?;
+        add(out, text)
+    } else {
+        let text = format!(in alloc; "ERROR {number} {words}\n")?;
+        add(out, text)
+    }
 }
 
 /// Adds the line of a fault that ends the script.
-pub(crate) fn add_fault(out: &mut Vec<u8>, fault: LineFault) -> Result<(), AllocError>
+pub(crate) fn add_fault(alloc: Global, out: &mut Vec<u8>, fault: LineFault) -> Result<(), Memory>
     ensures text { OnOk result (out.new.items ≡ out.old.items ++ fault_text fault) }
 {
-    let text = match fault {
-        LineFault::BadLine => b"ERROR 1 bad line AT 0\n",
-        LineFault::OutOfRange => b"ERROR 1 bad line AT 0\n",
-        LineFault::LineTooLong => b"ERROR 1 bad line AT 0\n",
-        LineFault::InputTooLong => b"ERROR 1 bad line AT 0\n",
-    };
-    out.extend_from_slice(text)?;
-    Ok(())
+    match fault {
+        LineFault::Refused(fault) => add_refused_select(alloc, out, fault),
+        LineFault::LineTooLong => add_line(out, b"ERROR 19 line too long\n"),
+        LineFault::InputTooLong => add_line(out, b"FAULT SCRIPT too long\n"),
+    }
 }
 
 /// Adds the last line of a script.

@@ -17,7 +17,7 @@ fn transcript(alloc: Global, lines: &str) -> Result<(String, ScriptEnd), Fail> {
     let Ok(mut manager) = Manager::new(alloc, config, pool) else {
         return Err(Fail::from("memory"));
     };
-    let end = script_in(alloc, &mut manager, &mut source, &mut sink);
+    let end = script_in(alloc, &mut manager, 100, &mut source, &mut sink);
     drop(manager.end());
     let text = String::from_utf8_lossy(alloc, sink.bytes())?;
     Ok((text, end))
@@ -41,9 +41,19 @@ fn scripts_print(rt: HostRuntime) -> Result<(), Fail> {
             "QUERY 1 STEP 2 PRIORITY 100 GATE 0\nADMIT 1 QUANTA 10 SCANS 1\nQUERY 2 STEP 3 PRIORITY 50 GATE 1\nQUERY 3 STEP 4 PRIORITY 40 GATE 3\nDONE 1 STEP 6\nADMIT 2 QUANTA 5 SCANS 1\nADMIT 3 QUANTA 4 SCANS 1\nEND STEP 6 RESERVED 9 SCANS 2 WAITING 0\n",
         ),
         (
-            "# nothing\n\n \t\n\tCLAIM\t0  4\nCLAIM 007 1\nCLAIM 100 1\nDONE 3\nDONE 4\nDONE 99999999999\nCLAIM 1 1\n",
+            "# nothing\n\n \t\n\tCLAIM\t0  4\nCLAIM 007 1\nCLAIM 100 1\nDONE 3\nDONE 4\nDONE 9999999999\n CLAIM 1 1 x\n",
             ScriptEnd::BadScript,
-            "QUERY 1 STEP 2 PRIORITY 0 GATE 0\nADMIT 1 QUANTA 1 SCANS 1\nQUERY 2 STEP 3 PRIORITY 7 GATE 0\nADMIT 2 QUANTA 1 SCANS 1\nQUERY 3 STEP 4 PRIORITY 100 GATE 1\nERROR 22 not now AT STEP 4\nERROR 13 no such query AT STEP 4\nERROR 1 bad line AT 0\n",
+            "QUERY 1 STEP 2 PRIORITY 0 GATE 0\nADMIT 1 QUANTA 1 SCANS 1\nQUERY 2 STEP 3 PRIORITY 7 GATE 0\nADMIT 2 QUANTA 1 SCANS 1\nQUERY 3 STEP 4 PRIORITY 100 GATE 1\nERROR 22 not now AT STEP 4\nERROR 13 no such query AT STEP 4\nERROR 13 no such query AT STEP 4\nERROR 1 bad line AT 11\n",
+        ),
+        (
+            "SET PDQPRIORITY LOW\nset pdqpriority 101\nOPEN USER\nCLAIM 50 1\nUSE 1\nCANCEL 1\nUSE 9\nCLOSE 2\nCLOSE 9\nDONE 1\nUSE 2\nONMODE -D 5\nRUN 1\nDONE 1\nUSE 1\nCLOSE 2\nCLAIM 101 1\n",
+            END,
+            "PRIORITY 1\nERROR 24 out of range\nSESSION 2 USER STEP 2\nQUERY 1 STEP 3 PRIORITY 50 GATE 0\nADMIT 1 QUANTA 5 SCANS 1\nSESSION 1\nFLAGGED 1 STEP 4\nERROR 21 no such session\nERROR 22 not now AT STEP 4\nERROR 21 no such session\nERROR 12 not allowed AT STEP 4\nSESSION 2\nERROR 12 not allowed AT STEP 4\nERROR 22 not now AT STEP 4\nSTOPPED 1 STEP 6 BY STEP 4\nSESSION 1\nCLOSED 2 STEP 7\nERROR 24 out of range\nEND STEP 7 RESERVED 0 SCANS 0 WAITING 0\n",
+        ),
+        (
+            "ONMODE -M 8000\nCLAIM 100 1\nONMODE -Q 5\nCLAIM 20 1\nCANCEL 2\nDONE 2\nONMODE -N 256\nDONE 1\nONMODE -Q 0\nQUERY SELECT a FROM t\n",
+            ScriptEnd::BadScript,
+            "CHANGED STEP 2\nQUERY 1 STEP 3 PRIORITY 100 GATE 0\nADMIT 1 QUANTA 10 SCANS 1\nPENDING STEP 4\nQUERY 2 STEP 5 PRIORITY 20 GATE 5\nWITHDRAWN 2 STEP 6\nCANCELLED 2 STEP 7 BY STEP 6\nCHANGED STEP 8\nDONE 1 STEP 10\nERROR 14 bad value AT STEP 10\nERROR 2 unknown table AT 20\n",
         ),
     ] {
         let (text, ended) = transcript(rt.alloc(), lines)?;

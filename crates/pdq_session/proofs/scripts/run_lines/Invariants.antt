@@ -1,12 +1,12 @@
 use Rattle.std.proofs.Common.{◌≡◌, ◌-◌}
-use Rattle.pdq_session.specs.ScriptTranscript.{script_state}
+use Rattle.pdq_session.specs.ScriptStates.{script_state}
 use Rattle.pdq_session.specs.Progress.{IsGoing, Played, progress, source_view}
 use Rattle.pdq_session.proofs.scripts.run_lines.Given as goal
 
 abbrev pub invariant-lines : goal.invariant-lines
 invariant-lines g l = record {
-  going : IsGoing (progress (script_state l.manager) l.reader l.replies.items);
-  played : Played (source_view g.So.Source.left g.So.Source.taken g.So.Source.ended l.initial.source) (source_view g.So.Source.left g.So.Source.taken g.So.Source.ended l.source) (g.Si.Sink.written l.initial.sink) (g.Si.Sink.written l.sink) (progress (script_state l.initial.manager) l.initial.reader l.initial.replies.items) (progress (script_state l.manager) l.reader l.replies.items);
+  going : IsGoing (progress (script_state l.manager l.sessions) l.reader l.replies.items);
+  played : Played (source_view g.So.Source.left g.So.Source.taken g.So.Source.ended l.initial.source) (source_view g.So.Source.left g.So.Source.taken g.So.Source.ended l.source) (g.Si.Sink.written l.initial.sink) (g.Si.Sink.written l.sink) (progress (script_state l.initial.manager l.initial.sessions) l.initial.reader l.initial.replies.items) (progress (script_state l.manager l.sessions) l.reader l.replies.items);
   opening : l.manager.opening ≡ l.initial.manager.opening;
   no_read : g.So.Source.faults l.source ≡ g.So.Source.faults l.initial.source;
   no_write : g.Si.Sink.faults l.sink ≡ g.Si.Sink.faults l.initial.sink;

@@ -1,7 +1,7 @@
 use Rattle.std.proofs.Common.{rules}
-use Rattle.pdq_session.specs.ScriptTranscript.{script_state}
-use Rattle.pdq_session.proofs.Starting.{own_session_open}
+use Rattle.pdq_session.specs.ScriptStates.{script_state}
+use Rattle.pdq_session.proofs.Starting.{started_standing}
 use Rattle.pdq_session.proofs.scripts.start.Goals as goal
 
-pub returns-clause-session : goal.returns-clause-session
-returns-clause-session c = own_session_open c.args.manager.now.opening (script_state c.open_session.new.self) (search rules)
+pub returns-clause-standing : goal.returns-clause-standing
+returns-clause-standing c = started_standing c.args.manager.now.opening c.args.opening (script_state c.open_session.new.self c.args.sessions.now) (search rules) c.requires.opening
