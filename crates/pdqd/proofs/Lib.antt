@@ -1,5 +1,8 @@
 pub mod Forms
 pub mod Numbers
+pub mod ClapSteps
+pub mod CommandLines
+pub mod FoundCommands
 pub mod Statuses
 pub mod Rules
 pub mod Inputs

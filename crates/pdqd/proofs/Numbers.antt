@@ -5,15 +5,16 @@ use Rattle.std.proofs.lemmas.Bool.Decides.{nat_tests}
 use Rattle.std.specs.List.{list_all}
 use Rattle.std.specs.Str.Parse.{digits_value, ParsesUnsigned}
 use Rattle.std.proofs.lemmas.Str.Parse.{IsNumeralModel, IsDigitsTest, numerals_by_value, parse_gives, digits_value_short}
-use Rattle.pdqd.specs.Words.{is_digit, has_digits, is_number, number_of}
+use Rattle.std.specs.Char.{is_ascii_digit}
+use Rattle.pdqd.specs.Words.{has_digits, is_number, number_of}
 
-tells_digits : IsDigitsTest (λ ds. list_all is_digit ds ≡ true)
+tells_digits : IsDigitsTest (λ ds. list_all is_ascii_digit ds ≡ true)
 tells_digits = search (rules, nat_tests)
 
-own : IsNumeralModel (λ ds. list_all is_digit ds ≡ true) (digits_value 10)
+own : IsNumeralModel (λ ds. list_all is_ascii_digit ds ≡ true) (digits_value 10)
 own = numerals_by_value _ tells_digits
 
-all_digits : (w : List ℕ) → has_digits w ≡ true → list_all is_digit w ≡ true
+all_digits : (w : List ℕ) → has_digits w ≡ true → list_all is_ascii_digit w ≡ true
 all_digits w has = grind (arith, nat_tests)
 
 some_digits : (w : List ℕ) → has_digits w ≡ true → 0 < length w

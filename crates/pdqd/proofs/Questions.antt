@@ -19,7 +19,8 @@ use Rattle.pdq_sql.specs.Reading.{select_reading}
 use Rattle.pdq_sql.specs.Resolution.{resolution_of}
 use Rattle.pdq_session.specs.Progress.{SourceView, CanFollow}
 use Rattle.pdq_session.specs.Reading.{remaining}
-use Rattle.pdqd.specs.Ask.{answer_over, answer_over_tables, answer_to_query, answer_to_select, ask_output, shapes_of, shown_answer}
+use Rattle.pdqd.specs.Ask.{answer_over, answer_over_tables, answer_to_query, answer_to_select, ask_output, shown_answer}
+use Rattle.pdq_table.specs.Storing.{shapes_of}
 use Rattle.pdqd.specs.Files.{Contents}
 use Rattle.pdqd.specs.Input.{GaveSome, IsInput}
 use Rattle.pdqd.specs.Output.{Output}

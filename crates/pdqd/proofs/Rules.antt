@@ -3,26 +3,23 @@ use Rattle.std.proofs.Common.{◌≡◌, Option, subst, sym}
 use Rattle.std.specs.Prelude.{Some, IfSome}
 use Rattle.pdq_session.proofs.LegalScripts.{scripts_keep_rules}
 use Rattle.pdq_session.proofs.PrintedScripts.{texts_keep_limits}
+use Rattle.pdq_session.proofs.Starting.{no_table_is_wide}
+use Rattle.pdq_session.specs.ScriptStates.{no_tables}
 use Rattle.pdqd.specs.declared.words.Form.{Form}
 use Rattle.pdqd.specs.declared.words.Form.TheVariants.{Script, Ask, AskTables}
-use Rattle.pdqd.specs.Words.{Asks, IsInRange, IsQuestion}
+use Rattle.pdqd.specs.Words.{HasForm, IsInRange}
 use Rattle.pdqd.specs.Run.{KeepsItsRules}
 
 form_keeps_rules : (form : Form) → IsInRange form → KeepsItsRules form
 form_keeps_rules (Ask select) range = tt
 form_keeps_rules (AskTables select schema) range = tt
 form_keeps_rules (Script config opening) range = record {
-  managed = λ failed lines. scripts_keep_rules config failed lines range.0;
-  printed = λ bytes failed. texts_keep_limits config bytes failed range.0;
+  managed = λ failed lines. scripts_keep_rules no_tables config opening failed lines range.0 no_table_is_wide range.1;
+  printed = λ bytes failed. texts_keep_limits no_tables config opening bytes failed range.0 no_table_is_wide range.1;
 }
 
 pub keeps_rules : (o : Option Form) (form : Form) → Some form ≡ o → IsInRange form → IfSome o KeepsItsRules
 keeps_rules o form is range = let P : Option Form → Type 0 = λ x. IfSome x KeepsItsRules in subst P is (form_keeps_rules form range)
 
-question_keeps_rules : (form : Form) → IsQuestion form → KeepsItsRules form
-question_keeps_rules (Ask select) asks = tt
-question_keeps_rules (AskTables select schema) asks = tt
-question_keeps_rules (Script config opening) asks = absurd asks
-
-pub questions_keep_rules : (o : Option Form) → Asks o → IfSome o KeepsItsRules
-questions_keep_rules o asks = let P : Option Form → Type 0 = λ x. IfSome x KeepsItsRules in subst P (sym asks.is) (question_keeps_rules asks.question asks.asks)
+pub said_form_keeps_rules : (o : Option Form) → HasForm o → IfSome o KeepsItsRules
+said_form_keeps_rules o has = keeps_rules o has.form (sym has.is) has.in_range

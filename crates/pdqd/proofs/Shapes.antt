@@ -7,7 +7,7 @@ use Rattle.pdq_value.specs.declared.shapes.Table.{Table}
 use Rattle.pdq_value.specs.Cells.{scale_of}
 use Rattle.pdq_value.specs.Tables.{shape_of, table_of}
 use Rattle.pdq_mean.specs.Loops.{lists_of}
-use Rattle.pdqd.specs.Ask.{shapes_of}
+use Rattle.pdq_table.specs.Storing.{shapes_of}
 
 pub shapes_seen : (tables : List Table) → shapes_of (map table_of tables) ≡ map (λ (t : Table). shape_of t.shape) tables
 shapes_seen [] = refl

@@ -5,7 +5,8 @@ use Rattle.pdq_edge.specs.Bytes.{Grows}
 use Rattle.pdq_edge.specs.Causes.{Rose}
 use Rattle.pdq_model.specs.Configuration.{Configuration}
 use Rattle.pdq_session.specs.Progress.{NoStoreFails, SourceView, WroteScript, WroteSome}
-use Rattle.pdq_session.specs.ScriptTranscript.{Failures, Out, ScriptEnding, ScriptState, script_transcript}
+use Rattle.pdq_session.specs.ScriptStates.{ScriptState, no_tables}
+use Rattle.pdq_session.specs.ScriptTranscript.{Failures, Out, ScriptEnding, script_transcript}
 use Rattle.pdqd.specs.declared.words.Form.TheVariants.{Script}
 use Rattle.pdqd.specs.Files.{Contents, GivenFiles}
 use Rattle.pdqd.specs.Output.{Output}
@@ -28,7 +29,7 @@ pub none_is_few : (f g : List ℕ) (failed : Failures) → NoStoreFails failed �
 none_is_few f g failed none below = rw none (omega arith)
 
 -- a script that wrote its whole transcript is a run that wrote all
-pub wrote_all : (c : Configuration) (contents : Contents) (p : ℕ) (f g : List ℕ) (status : ℕ) (before now : SourceView) (w0 w v : Option (List ℕ)) (ending : ScriptEnding) (state : ScriptState) → WroteScript before now w0 w (script_transcript c) ending state → v ≡ w → status ≡ status_of ending → RanWhole (Script c p) contents before now w0 v f g status
+pub wrote_all : (c : Configuration) (contents : Contents) (p : ℕ) (f g : List ℕ) (status : ℕ) (before now : SourceView) (w0 w v : Option (List ℕ)) (ending : ScriptEnding) (state : ScriptState) → WroteScript before now w0 w (script_transcript no_tables c p) ending state → v ≡ w → status ≡ status_of ending → RanWhole (Script c p) contents before now w0 v f g status
 unfolding output_of
 wrote_all c contents p f g status before now w0 w v ending state wrote same is = record {
   files = no_files;
@@ -45,7 +46,7 @@ wrote_all c contents p f g status before now w0 w v ending state wrote same is =
 }
 
 -- and a run that wrote a part, which is all of it
-pub wrote_all_part : (c : Configuration) (contents : Contents) (p : ℕ) (f g : List ℕ) (before now : SourceView) (w0 w v : Option (List ℕ)) (ending : ScriptEnding) (state : ScriptState) → WroteScript before now w0 w (script_transcript c) ending state → v ≡ w → RanInPart (Script c p) contents before now w0 v f g
+pub wrote_all_part : (c : Configuration) (contents : Contents) (p : ℕ) (f g : List ℕ) (before now : SourceView) (w0 w v : Option (List ℕ)) (ending : ScriptEnding) (state : ScriptState) → WroteScript before now w0 w (script_transcript no_tables c p) ending state → v ≡ w → RanInPart (Script c p) contents before now w0 v f g
 wrote_all_part c contents p f g before now w0 w v ending state wrote same = record {
   files = no_files;
   given = tt;
@@ -61,7 +62,7 @@ wrote_all_part c contents p f g before now w0 w v ending state wrote same = reco
 }
 
 -- a script that was cut off is a run that was cut off
-pub wrote_some_part : (c : Configuration) (contents : Contents) (p : ℕ) (f g : List ℕ) (before now : SourceView) (w0 w : Option (List ℕ)) (state : ScriptState) → WroteSome before now w0 w (script_transcript c) state → RanInPart (Script c p) contents before now w0 w f g
+pub wrote_some_part : (c : Configuration) (contents : Contents) (p : ℕ) (f g : List ℕ) (before now : SourceView) (w0 w : Option (List ℕ)) (state : ScriptState) → WroteSome before now w0 w (script_transcript no_tables c p) state → RanInPart (Script c p) contents before now w0 w f g
 wrote_some_part c contents p f g before now w0 w state some = let wrote = some.wrote in record {
   files = no_files;
   given = tt;

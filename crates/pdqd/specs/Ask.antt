@@ -1,9 +1,9 @@
 -- What `ask` writes: the answer of a question on one plain table, or on the tables of a schema.
-use Rattle.std.specs.Prelude.{ℕ, List, [], ◌∷◌, Option, Some, None, Result, Ok, Err, map}
+use Rattle.std.specs.Prelude.{ℕ, List, [], ◌∷◌, Option, Some, None, Result, Ok, Err}
 use Rattle.pdq_value.specs.declared.cells.Cell.{Cell}
 use Rattle.pdq_value.specs.declared.loading.LoadFault.{LoadFault}
 use Rattle.pdq_value.specs.PlainTable.{plain_table_of}
-use Rattle.pdq_value.specs.Tables.{ShapeView, TableView}
+use Rattle.pdq_value.specs.Tables.{TableView}
 use Rattle.pdq_schema.specs.declared.faults.SchemaFault.{SchemaFault}
 use Rattle.pdq_schema.specs.Schemas.{SchemaView}
 use Rattle.pdq_schema.specs.SchemaFile.{schema_of}
@@ -15,6 +15,7 @@ use Rattle.pdq_sql.specs.declared.faults.SqlWhy.TheVariants.{BadLine}
 use Rattle.pdq_sql.specs.Asts.{AstView}
 use Rattle.pdq_sql.specs.Reading.{select_reading}
 use Rattle.pdq_sql.specs.Resolution.{resolution_of}
+use Rattle.pdq_table.specs.Storing.{shapes_of}
 use Rattle.pdq_session.specs.Answers.{refused_schema, refused_select, refused_table, rows_text, too_many_rows}
 use Rattle.pdqd.specs.declared.asking.Reply.{Reply}
 use Rattle.pdqd.specs.Output.{Output}
@@ -22,9 +23,6 @@ use Rattle.pdqd.specs.Output.{Output}
 -- a line that refuses what was asked
 abbrev pub refused : List ℕ → Output
 refused line = record { text = line; status = 65 }
-
-abbrev pub shapes_of : List TableView → List ShapeView
-shapes_of tables = map (λ (t : TableView). t.shape) tables
 
 abbrev pub shown_answer : Option (List (List Cell)) → Output
 shown_answer None = refused too_many_rows

@@ -1,4 +1,5 @@
 pub mod Words
+pub mod CommandLine
 pub mod Run
 pub mod Output
 pub mod Ask

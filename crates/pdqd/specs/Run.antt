@@ -4,10 +4,11 @@ use Rattle.pdq_edge.specs.Causes.{Rose}
 use Rattle.pdq_model.specs.Configuration.{Configuration}
 use Rattle.pdq_session.specs.declared.scripts.ScriptEnd.{ScriptEnd}
 use Rattle.pdq_session.specs.Progress.{SourceView, Ends, WroteAll, WrotePart}
-use Rattle.pdq_base.specs.Lines.{InputLine}
+use Rattle.pdq_base.specs.Lines.{InputLine, lines_of}
 use Rattle.pdq_session.specs.PrintedLines.{PrintsWithinLimits}
 use Rattle.pdq_session.specs.ScriptLaws.{KeepsRules, state_after_lines}
-use Rattle.pdq_session.specs.ScriptTranscript.{Failures, ScriptEnding, ScriptState, AtEnd, AtFault, failures_in, script_transcript, starting_state}
+use Rattle.pdq_session.specs.ScriptStates.{ScriptState, no_tables, starting_state}
+use Rattle.pdq_session.specs.ScriptTranscript.{Failures, ScriptEnding, AtEnd, AtFault, failures_in, script_transcript}
 use Rattle.pdqd.specs.declared.words.Form.{Form}
 use Rattle.pdqd.specs.declared.words.Form.TheVariants.{Script, Ask, AskTables}
 use Rattle.pdqd.specs.Output.{Output}
@@ -21,8 +22,8 @@ status_of AtFault = 65
 -- what a run of this form writes where it is given these files and these bytes of its source, and stores fail at these of its lines; no command that uses a store is built yet
 abbrev pub run_output : Form → GivenFiles → List ℕ → Failures → Output
 run_output (Script config opening) files bytes failed = record {
-  text = (script_transcript config bytes failed).text;
-  status = status_of (script_transcript config bytes failed).ending;
+  text = (script_transcript no_tables config opening bytes failed).text;
+  status = status_of (script_transcript no_tables config opening bytes failed).ending;
 }
 run_output (Ask select) files bytes failed = ask_output select bytes
 run_output (AskTables select schema) files bytes failed = tables_output select files.schema files.tables
@@ -94,19 +95,19 @@ abbrev pub NoneFell : List ℕ → List ℕ → Type 0
 NoneFell before now = (place : ℕ) → slice_index before place ≤ slice_index now place
 
 -- how a script over a manager of its own ended; what it left there is left open
-pub record RunsScript (end : ScriptEnd) (config : Configuration) (before now : SourceView) (written0 written : Option (List ℕ)) : Type 0 where
+pub record RunsScript (end : ScriptEnd) (config : Configuration) (opening : ℕ) (before now : SourceView) (written0 written : Option (List ℕ)) : Type 0 where
   pub state : ScriptState
-  pub ends : Ends end before now written0 written (script_transcript config) state
+  pub ends : Ends end before now written0 written (script_transcript no_tables config opening) state
 
--- what is true of every script over a manager of this configuration
-pub record KeepsScriptRules (config : Configuration) : Type 0 where
+-- what is true of every script over a manager of this configuration, with this opening priority
+pub record KeepsScriptRules (config : Configuration) (opening : ℕ) : Type 0 where
   -- after each line the manager keeps its rules: it gives no more than there is, is at rest, overtakes no query more than 32 times, has come there by the legal history that its journal is, and has admitted heads alone, each past all gates
-  pub managed : (failed : Failures) (lines : List InputLine) → KeepsRules config (state_after_lines (starting_state config) failed lines)
+  pub managed : (failed : Failures) (lines : List InputLine) → KeepsRules config (state_after_lines (starting_state no_tables config opening) failed lines)
   -- after each printed line no more quanta and scan threads are held than there are, as the lines themselves tell
-  pub printed : (bytes : List ℕ) (failed : Failures) → PrintsWithinLimits config (script_transcript config bytes failed).text
+  pub printed : (bytes : List ℕ) (failed : Failures) → PrintsWithinLimits config (lines_of bytes) (script_transcript no_tables config opening bytes failed).text
 
 -- a run of a script keeps the rules of scripts
 abbrev pub KeepsItsRules : Form → Type 0
 KeepsItsRules (Ask select) = ⊤
 KeepsItsRules (AskTables select schema) = ⊤
-KeepsItsRules (Script config opening) = KeepsScriptRules config
+KeepsItsRules (Script config opening) = KeepsScriptRules config opening

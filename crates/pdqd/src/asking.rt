@@ -11,7 +11,8 @@ ghost use Rattle.pdq_query.specs.Answer.{answer};
 ghost use Rattle.pdq_query.specs.Fits.{Fits};
 ghost use Rattle.pdq_query.specs.Queries.{query_of};
 ghost use Rattle.pdq_session.specs.Answers.{refused_schema, refused_select, refused_table};
-ghost use Rattle.pdqd.specs.Ask.{answer_over_tables, answer_to_query, answer_to_select, ask_output, output_of, refused, shapes_of, shown_answer};
+ghost use Rattle.pdqd.specs.Ask.{answer_over_tables, answer_to_query, answer_to_select, ask_output, output_of, refused, shown_answer};
+ghost use Rattle.pdq_table.specs.Storing.{shapes_of};
 ghost use Rattle.pdqd.specs.Files.{FilesGive, TablesGive};
 
 use crate::input::InputFault;

@@ -5,6 +5,7 @@
 ghost use Rattle.std.specs.Prelude.{◌≡◌, IfOk, vec_len};
 
 mod asking;
+mod command_line;
 mod file_names;
 mod input;
 mod reading_files;

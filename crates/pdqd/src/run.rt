@@ -3,7 +3,7 @@ ghost use Rattle.std.specs.Prelude.{◌≡◌, ◌≢◌, ◌≤◌, ◌↔◌, 
 ghost use Rattle.pdq_edge.specs.Bytes.{Grows, GrewSome};
 ghost use Rattle.pdq_edge.specs.Causes.{Rose};
 ghost use Rattle.pdq_session.specs.Progress.{SourceView, source_view};
-ghost use Rattle.pdq_session.specs.ScriptTranscript.{opening_script, script_state};
+ghost use Rattle.pdq_session.specs.ScriptStates.{IsFresh};
 ghost use Rattle.pdqd.specs.Files.{Contents};
 ghost use Rattle.pdqd.specs.Words.{form_of, IsInRange};
 ghost use Rattle.pdqd.specs.Run.{HasEnded, IsStatus, IsWhole, IsCutOff, KeepsItsRules, LeavesUnread, NoneFell, RanInPart, RanWhole, RunsScript, TellsFaults};
@@ -37,7 +37,7 @@ const NO_OUTPUT: u8 = 74;
 /// A manager without an entry, over a pool of its own; None for want of memory.
 fn manager_of(alloc: Global, config: Config) -> Option<Manager>
     ensures opening { IfSome result (λ m. m.opening ≡ config) }
-    ensures fresh { IfSome result (λ m. script_state m ≡ opening_script config) }
+    ensures fresh { IfSome result IsFresh }
 {
     let Ok(pool) = Pool::new(alloc, config.frames_per_quantum(), config.max_queries()) else {
         return None;
@@ -66,10 +66,12 @@ fn flushed<Si: Sink>(sink: &mut Si, status: u8) -> u8
 fn run_script<So: Source, Si: Sink>(
     alloc: Global,
     config: Config,
+    opening: u32,
     source: &mut So,
     sink: &mut Si,
 ) -> ScriptEnd
-    ensures ends { RunsScript result config (source_view So.left So.taken So.ended source.old) (source_view So.left So.taken So.ended source.new) (Si.written sink.old) (Si.written sink.new) }
+    requires opening { opening ≤ 100 }
+    ensures ends { RunsScript result config opening (source_view So.left So.taken So.ended source.old) (source_view So.left So.taken So.ended source.new) (Si.written sink.old) (Si.written sink.new) }
     ensures read { result ≡ ScriptEnd.ReadFault → Rose (So.faults source.old) (So.faults source.new) }
     ensures read_none { result ≢ ScriptEnd.ReadFault → So.faults source.new ≡ So.faults source.old }
     ensures write { result ≡ ScriptEnd.WriteFault → Rose (Si.faults sink.old) (Si.faults sink.new) }
@@ -78,7 +80,7 @@ fn run_script<So: Source, Si: Sink>(
     let Some(mut manager) = manager_of(alloc, config) else {
         return ScriptEnd::Memory;
     };
-    let end = script_in(alloc, &mut manager, source, sink);
+    let end = script_in(alloc, &mut manager, opening, source, sink);
     drop(manager.end());
     end
 }
@@ -87,13 +89,15 @@ fn run_script<So: Source, Si: Sink>(
 fn script_status<So: Source, Si: Sink>(
     alloc: Global,
     config: Config,
+    opening: u32,
     source: &mut So,
     sink: &mut Si,
 ) -> u8
+    requires opening { opening ≤ 100 }
     ensures known { (IsWhole result) ⊎ (IsCutOff result) }
-    ensures whole { (contents : Contents) (opening : ℕ) (faults0 faults : List ℕ) → IsWhole result → RanWhole (Form.Script config opening) contents
+    ensures whole { (contents : Contents) (faults0 faults : List ℕ) → IsWhole result → RanWhole (Form.Script config opening) contents
         (source_view So.left So.taken So.ended source.old) (source_view So.left So.taken So.ended source.new) (Si.written sink.old) (Si.written sink.new) faults0 faults result }
-    ensures part { (contents : Contents) (opening : ℕ) (faults0 faults : List ℕ) → IsCutOff result → RanInPart (Form.Script config opening) contents
+    ensures part { (contents : Contents) (faults0 faults : List ℕ) → IsCutOff result → RanInPart (Form.Script config opening) contents
         (source_view So.left So.taken So.ended source.old) (source_view So.left So.taken So.ended source.new) (Si.written sink.old) (Si.written sink.new) faults0 faults }
     ensures ended { result ≡ 0 → IsTrue (So.ended source.new) }
     ensures flushed { IsWhole result → Si.flushed sink.new ≡ Si.written sink.new }
@@ -102,7 +106,7 @@ fn script_status<So: Source, Si: Sink>(
     ensures write { result ≡ 74 → Rose (Si.faults sink.old) (Si.faults sink.new) }
     ensures write_none { result ≢ 74 → Si.faults sink.new ≡ Si.faults sink.old }
 {
-    match run_script(alloc, config, source, sink) {
+    match run_script(alloc, config, opening, source, sink) {
         ScriptEnd::End { store_failed: _ } => flushed(sink, 0),
         ScriptEnd::BadScript => flushed(sink, DATA),
         ScriptEnd::ReadFault => NO_INPUT,
@@ -205,7 +209,7 @@ fn run_form<F: Files, So: Source, Si: Sink>(
         (record { source = So.faults source.new; files = F.faults files.new; sink = Si.faults sink.new }) }
 {
     match form {
-        Form::Script { config, opening: _ } => script_status(alloc, config, source, sink),
+        Form::Script { config, opening } => script_status(alloc, config, opening, source, sink),
         Form::Ask(select) => ask_status(alloc, select.bytes(), source, sink),
         Form::AskTables { select, schema } => {
             ask_tables_status(alloc, select.bytes(), schema.as_str(), files, sink)
@@ -271,8 +275,9 @@ pub fn run<R: Threads + Sync, F: Files, So: Source, Si: Sink, Sp: Spill + Send>(
     ensures stores_faults { NoneFell (map Sp.faults stores.old.items) (map Sp.faults stores.new.items) }
     ensures stores_puts { NoneFell (map Sp.puts stores.old.items) (map Sp.puts stores.new.items) }
 {
-    let Ok(form) = read_words(alloc, words) else {
-        return NO_MEMORY;
+    let form = match read_words(alloc, words) {
+        Ok(form) => form,
+        Err(_) => return NO_MEMORY,
     };
     let Some(form) = form else {
         return USAGE;

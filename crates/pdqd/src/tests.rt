@@ -150,10 +150,10 @@ fn worked_examples(rt: HostRuntime) -> Result<(), Fail> {
 #[test]
 fn refusals(rt: HostRuntime) -> Result<(), Fail> {
     let alloc: Global = rt.alloc();
-    let refused = b"CLAIM 50 4\nCLAIM 50 17\nCLAIM 1 1\n".to_vec(alloc)?;
+    let refused = b"CLAIM 50 4\nCLAIM 50 17\nCLAIM 1 1 1\nCLAIM 1 1\n".to_vec(alloc)?;
     let ran = run_over(&rt, alloc, USUAL, refused, 4096, &[], ROOM)?;
     let output =
-        "SESSION 1 ADMIN STEP 1\nQUERY 1 STEP 2 PRIORITY 50 GATE 0\nADMIT 1 QUANTA 5 SCANS 4\nERROR 1 bad line AT 0\n";
+        "SESSION 1 ADMIN STEP 1\nQUERY 1 STEP 2 PRIORITY 50 GATE 0\nADMIT 1 QUANTA 5 SCANS 4\nERROR 24 out of range\nERROR 1 bad line AT 10\n";
     assert_eq!(rt; ran.status, 65);
     assert_eq!(rt; ran.sink.bytes(), output.as_bytes());
 

@@ -1,8 +1,10 @@
 //! The words of the command line.
-ghost use Rattle.std.specs.Prelude.{◌≡◌, ◌&&◌, ◌==◌, IfOk, IfSome, OnErr, length, map, nat_lt, slice_index, string_bytes};
+ghost use Rattle.std.specs.Prelude.{◌≡◌, IfOk, IfSome, OnErr, is_some, map, string_bytes};
+ghost use Rattle.std.specs.Char.{is_ascii_digit};
 ghost use Rattle.std.specs.List.{list_all};
-ghost use Rattle.pdqd.specs.Words.{is_digit, has_digits, has_leading_zero, is_number, number_of, script_of, is_ask, is_script, is_plain_word, form_of, Asks, IsInRange};
+ghost use Rattle.pdqd.specs.Words.{has_digits, has_leading_zero, is_number, number_of, script_of, is_plain_word, form_of, form_of_plain, HasForm, IsInRange};
 
+use crate::command_line::{form_in, parse};
 use crate::file_names::FileName;
 use pdq_base::Memory;
 use pdq_model::Config;
@@ -23,16 +25,10 @@ pub(crate) enum Form {
     AskTables { select: Text, schema: FileName },
 }
 
-fn is_digit(b: u8) -> bool
-    ensures value { result ≡ is_digit b }
-{
-    b >= b'0' && b <= b'9'
-}
-
 fn all_digits(word: &[u8]) -> bool
-    ensures value { result ≡ list_all is_digit word.now }
+    ensures value { result ≡ list_all is_ascii_digit word.now }
 {
-    word.iter().all(|b| is_digit(*b))
+    word.iter().all(|byte| byte.is_ascii_digit())
 }
 
 fn has_digits(word: &[u8]) -> bool
@@ -44,7 +40,7 @@ fn has_digits(word: &[u8]) -> bool
 fn has_leading_zero(word: &[u8]) -> bool
     ensures value { result ≡ has_leading_zero word.now }
 {
-    word.len() > 1 && word[0] == b'0'
+    word.len() > 1 && word.starts_with(b"0")
 }
 
 fn is_number(word: &[u8]) -> bool
@@ -54,7 +50,7 @@ fn is_number(word: &[u8]) -> bool
 }
 
 /// The number that a word says: 1 to 7 decimal digits without a leading zero, or 0.
-fn number(word: &str) -> Option<u32>
+pub(crate) fn number(word: &str) -> Option<u32>
     ensures value { result ≡ number_of word.now }
 {
     if is_number(word.as_bytes()) {
@@ -64,20 +60,9 @@ fn number(word: &str) -> Option<u32>
     }
 }
 
-fn is_script(word: &[u8]) -> bool
-    ensures value { result ≡ is_script word.now }
-{
-    word.len() == 6
-        && word[0] == b's'
-        && word[1] == b'c'
-        && word[2] == b'r'
-        && word[3] == b'i'
-        && word[4] == b'p'
-        && word[5] == b't'
-}
-
+/// The script of these numbers, in the order T Q S m p; None where one is missing or out of range.
 #[tactic(auto, unfolding(crate::specs::Words::script_of))]
-fn script(
+pub(crate) fn script(
     t: Option<u32>,
     q: Option<u32>,
     s: Option<u32>,
@@ -99,60 +84,56 @@ fn script(
     }
 }
 
-fn is_ask(word: &[u8]) -> bool
-    ensures value { result ≡ is_ask word.now }
-{
-    word.len() == 3 && word[0] == b'a' && word[1] == b's' && word[2] == b'k'
-}
-
-/// Whether a word is in no form, as an option is none.
-fn begins_with_dash(word: &[u8]) -> bool
-    ensures value { result ≡ (nat_lt 0 (length word.now) && slice_index word.now 0 == 45) }
-{
-    !word.is_empty() && word[0] == b'-'
-}
-
+/// Whether a word can be in a form: at most 8,192 bytes, of which the first is no dash.
 fn is_plain_word(word: &[u8]) -> bool
     ensures value { result ≡ is_plain_word word.now }
 {
-    word.len() <= 8192 && !begins_with_dash(word)
+    word.len() <= 8192 && !word.starts_with(b"-")
+}
+
+fn are_plain(words: &[String]) -> bool
+    ensures value { result ≡ list_all (λ word. is_plain_word (string_bytes word)) words.now }
+{
+    words.iter().all(|word| is_plain_word(word.as_bytes()))
+}
+
+/// Whether plain words have a form, with each number in range.
+fn is_form(words: &[String]) -> bool
+    ensures value { result ≡ is_some (form_of_plain (map string_bytes words.now)) }
+{
+    match words {
+        [first, _select] => first.as_str() == "ask",
+        [first, _select, _schema] => first.as_str() == "ask",
+        [first, t, q, s, m, p] => {
+            first.as_str() == "script"
+                && script(number(t), number(q), number(s), number(m), number(p)).is_some()
+        }
+        _ => false,
+    }
+}
+
+/// Whether the words have a form, with each number in range. This takes no memory, so that words without a form are told
+/// from want of memory.
+fn have_form(words: &[String]) -> bool
+    ensures value { result ≡ is_some (form_of (map string_bytes words.now)) }
+{
+    are_plain(words) && is_form(words)
 }
 
 /// The form that the words have; None where they have none or a number is out of range.
 ///
 /// # Errors
-/// `Memory` where it is wanting.
-#[tactic(auto, unfolding(crate::specs::Words::form_of))]
+/// `Memory` where it is wanting; then the words have a form.
 pub(crate) fn read_words(alloc: Global, words: &[String]) -> Result<Option<Form>, Memory>
     ensures value { IfOk result (λ form. form ≡ form_of (map string_bytes words.now)) }
     ensures in_range { IfOk result (λ form. IfSome form IsInRange) }
-    ensures asks { OnErr result (Asks (form_of (map string_bytes words.now))) }
+    ensures wanting { OnErr result (HasForm (form_of (map string_bytes words.now))) }
 {
-    match words {
-        [word, select] => {
-            if !is_ask(word.as_bytes()) || !is_plain_word(select.as_bytes()) {
-                return Ok(None);
-            }
-            let select = Text::from_str(alloc, select)?;
-            Ok(Some(Form::Ask(select)))
-        }
-        [word, select, schema] => {
-            if !is_ask(word.as_bytes())
-                || !is_plain_word(select.as_bytes())
-                || !is_plain_word(schema.as_bytes())
-            {
-                return Ok(None);
-            }
-            let select = Text::from_str(alloc, select)?;
-            let schema = FileName::copied(alloc, schema)?;
-            Ok(Some(Form::AskTables { select, schema }))
-        }
-        [word, t, q, s, m, p] => {
-            if !is_script(word.as_bytes()) {
-                return Ok(None);
-            }
-            Ok(script(number(t), number(q), number(s), number(m), number(p)))
-        }
-        _ => Ok(None),
+    if !have_form(words) {
+        return Ok(None);
+    }
+    match parse(alloc, words) {
+        Ok(found) => form_in(alloc, &found),
+        Err(_) => Err(Memory),
     }
 }
