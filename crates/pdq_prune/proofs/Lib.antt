@@ -1,0 +1,4 @@
+pub mod ValueOrder
+pub mod Exclusion
+pub mod Leaving
+pub mod Holding
