@@ -1,13 +1,12 @@
 -- Rows laid out as words and as bytes, and read again.
-use Rattle.std.proofs.Common.{◌≡◌, ℕ, zero, suc, ◌+◌, ◌-◌, ◌*◌, ◌/◌, ◌^◌, ◌<◌, ◌≤◌, List, [], ◌∷◌, ◌++◌, length, get_or, take, drop, refl, sym, ap, ap₂, ◌∙◌, subst, arith, add-one, replicate}
-use Rattle.std.specs.Prelude.{ℤ, pos, Option, Some, None, slice_get}
-use Rattle.std.specs.List.{All, flat_map}
-use Rattle.std.specs.Int.{w64, to_le_bytes, from_le_bytes, cast_unsigned, cast_signed}
+use Rattle.std.proofs.Common.{◌≡◌, ℕ, zero, suc, ◌+◌, ◌-◌, ◌*◌, ◌/◌, ◌^◌, ◌<◌, ◌≤◌, List, [], ◌∷◌, ◌++◌, length, get_or, take, drop, refl, sym, ap, ap₂, ◌∙◌, arith, replicate}
+use Rattle.std.specs.Prelude.{ℤ, pos, Some, slice_get}
+use Rattle.std.specs.Int.{w64, from_le_bytes, cast_unsigned, cast_signed}
 use mir.Val.{SFits}
 use Rattle.std.proofs.Math.Facts.{Fits-of_z, to_z-of_z}
 use Rattle.std.proofs.lemmas.Nat.{from_le_bytes-to_le_bytes_8, div-add-mod'}
 use Rattle.std.proofs.Math.Nat.{mul-le-mul_right, mul-le-mul_left}
-use Rattle.std.proofs.lemmas.List.{append-nil, append_assoc, length-append, length-take, length-drop, length-take-le, take_at, drop_at, drop-drop, drop-append-le, take-append-le, length-replicate, drop-replicate, get_or-drop, take_more, take-append-drop, take_all}
+use Rattle.std.proofs.lemmas.List.{append-nil, append_assoc, length-append, length-take, length-drop, length-take-le, take_at, drop_at, drop-drop, drop-append-le, take-append-le, drop-replicate, get_or-drop, take_more, take-append-drop, take_all}
 use Rattle.std.proofs.lemmas.List.Concat.{flat_map-append}
 use Rattle.std.proofs.lemmas.List.Elements.{All-head, All-tail, All-cons, All-nil}
 use Rattle.pdq_spill.specs.Rows.{words_of, rows_of, AreRows, AreWords}
