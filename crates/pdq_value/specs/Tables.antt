@@ -22,6 +22,10 @@ pub record TableView : Type 0 where
   -- in the order of the file
   pub rows : List (List Value)
 
+-- what is read past the last table
+abbrev pub no_table : TableView
+no_table = record { shape = record { name = []; columns = [] }; rows = [] }
+
 abbrev pub shape_of : TableShape → ShapeView
 shape_of s = record { name = s.name; columns = s.columns.items }
 

@@ -8,7 +8,7 @@ use pdq_base::Memory;
 ///
 /// # Errors
 /// `Memory` where it is wanting; then nothing is appended.
-pub(crate) fn append(to: &mut Vec<u8>, bytes: &[u8]) -> Result<(), Memory>
+pub fn append(to: &mut Vec<u8>, bytes: &[u8]) -> Result<(), Memory>
     ensures text { OnOk result (to.new.items ≡ to.old.items ++ bytes.now) }
     ensures part { OnErr result (AppendsPart to.old.items to.new.items bytes.now) }
 {

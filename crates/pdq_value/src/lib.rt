@@ -20,6 +20,7 @@ mod shapes;
 mod tests;
 mod texts;
 
+pub use appending::append;
 pub use averages::average;
 pub use cells::Cell;
 pub use cells_of_values::cell_of;
