@@ -1,8 +1,10 @@
 -- Codes and places in lists that rise.
 use Rattle.std.proofs.Common.{◌≡◌, ℕ, zero, suc, ◌+◌, ◌<◌, ◌≤◌, ◌⊎◌, inl, inr, Bool, true, false, cond, List, [], ◌∷◌, length, get_or, refl, sym, ap, ap₂, ◌∙◌, subst, arith, true≢false, Option, Some, None, is_some, Contains, count_by, nat_cmp, nat_lt, ◌↔◌, IfSome, IfNone, slice_get}
+use Rattle.std.specs.Cmp.Lexicographic.{texts_ties}
 use Rattle.std.specs.List.{position_or_len}
 use Rattle.std.specs.List.Sorted.{IsPartitionedBy}
 use Rattle.std.specs.Ordering.{is_eq, is_lt, ordering_reverse}
+use Rattle.std.specs.Str.{bytes_eq}
 use Rattle.std.specs.declared.cmp.Ordering.TheVariants.{Less, Equal, Greater}
 use Rattle.std.proofs.lemmas.Bool.{cases_order, cond-true, false_from_ne_true, lt-ltb, ltb-false}
 use Rattle.std.proofs.lemmas.Bool.Decides.{nat_tests}
@@ -96,3 +98,38 @@ codes_below_a_place xs h s t i e =
     let a = at_code xs s i e in
     let r = below_count (λ y. is_lt (text_cmp y t)) xs (rising-IsPartitionedBy xs t h) i a.0 in
     (λ p. less_from_test s t (subst (λ u. is_lt (text_cmp u t) ≡ true) a.1 (r.0 p)), λ q. r.1 (subst (λ u. is_lt (text_cmp u t) ≡ true) (sym a.1) (ap is_lt q)))
+
+no_code : (xs : List (List ℕ)) (t : List ℕ) (i : ℕ) → Rises xs → count_by (λ y. is_lt (text_cmp y t)) xs ≡ i → ((i < length xs) × (get_or xs i [] ≡ t) → ⊥) → (r : Option ℕ) → code_of xs t ≡ r → r ≡ None
+no_code xs t i h count absent None e = refl
+no_code xs t i h count absent (Some j) e = absurd (absent (subst (λ k. (k < length xs) × (get_or xs k [] ≡ t)) (at j (at_code xs t j e)) (at_code xs t j e)))
+  where
+    passes : (k : ℕ) → k < length xs → (k < count_by (λ y. is_lt (text_cmp y t)) xs) ↔ (is_lt (text_cmp (get_or xs k []) t) ≡ true)
+    passes k w = below_count (λ y. is_lt (text_cmp y t)) xs (rising-IsPartitionedBy xs t h) k w
+
+    -- the text's place is past those of the lesser ones, and all before it are
+    at : (j : ℕ) → (j < length xs) × (get_or xs j [] ≡ t) → j ≡ i
+    at j a =
+        let stops : j < count_by (λ y. is_lt (text_cmp y t)) xs → ⊥ = λ p.
+        true≢false (sym ((passes j a.0).0 p) ∙ ap (λ u. is_lt (text_cmp u t)) a.1 ∙ ap is_lt (tied_itself text_cmp-IsLinearOrder.total t)) in
+        by (cases_order j i) stops a
+      where
+        by : (j ≡ i) ⊎ ((j < i) ⊎ (i < j)) → (j < count_by (λ y. is_lt (text_cmp y t)) xs → ⊥) → (j < length xs) × (get_or xs j [] ≡ t) → j ≡ i
+        by (inl same) stops a = same
+        by (inr (inl before)) stops a = absurd (stops (omega (arith, before, count)))
+        by (inr (inr after)) stops a =
+            let lesser : is_lt (text_cmp (get_or xs i []) t) ≡ true = ap (λ u. is_lt (text_cmp (get_or xs i []) u)) (sym a.1) ∙ ap is_lt (Less-from_sorted text_cmp xs i j [] h after a.0) in
+            let more : i < count_by (λ y. is_lt (text_cmp y t)) xs = (passes i (omega (arith, after, a.0))).1 lesser in
+            absurd (omega (arith, more, count))
+
+module _ (xs : List (List ℕ)) (t : List ℕ) where
+  -- a text stands behind the lesser ones, or it is not there
+  pub place_past : (i : ℕ) → Rises xs → count_by (λ y. is_lt (text_cmp y t)) xs ≡ i → length xs ≤ i → code_of xs t ≡ None
+  place_past i h count past = no_code xs t i h count (λ a. let no : ⊥ = omega (arith, past, a.0) in no) (code_of xs t) refl
+
+  pub place_found : (u : List ℕ) (i : ℕ) → Rises xs → slice_get xs i ≡ Some u → bytes_eq u t ≡ true → code_of xs t ≡ Some i
+  place_found u i h at same = code_of-slice_get xs t i h (at ∙ ap Some (same_text u t (sym (texts_ties u t) ∙ same)))
+
+  pub place_other : (u : List ℕ) (i : ℕ) → Rises xs → count_by (λ y. is_lt (text_cmp y t)) xs ≡ i → slice_get xs i ≡ Some u → bytes_eq u t ≡ false → code_of xs t ≡ None
+  place_other u i h count at other =
+      no_code xs t i h count
+      (λ a. true≢false (sym (is_text-IsEquivalence.refl t) ∙ ap (λ v. is_text v t) (sym (sym (get_or_from_slice_get xs i u [] at) ∙ a.1)) ∙ sym (texts_ties u t) ∙ other)) (code_of xs t) refl

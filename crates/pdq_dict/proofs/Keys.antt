@@ -1,7 +1,7 @@
 -- Texts held as the keys of a set: f gives the text of a key.
 use Rattle.std.proofs.Common.{◌≡◌, ℕ, zero, suc, ◌+◌, ◌<◌, ◌≤◌, Bool, true, false, cond, not, ◌||◌, List, [], ◌∷◌, ◌++◌, length, get_or, map, refl, sym, ap, ap₂, ◌∙◌, subst, arith, nat_eq, nat_lt, nat_cmp, Option, Some, None, is_some, true≢false, IsSorted, if◌then◌else◌, count_by, slice_get}
 use Rattle.std.specs.Cmp.Lexicographic.{pointwise, slice_cmp, texts_ties}
-use Rattle.std.specs.List.{IsDistinct, list_any, position, prefix_len}
+use Rattle.std.specs.List.{AllByRecursion, IsDistinct, list_any, position, prefix_len}
 use Rattle.std.specs.List.Sorted.{IsPartitionPoint, IsPartitionedBy}
 use Rattle.std.specs.Global.{Vec}
 use Rattle.std.specs.Map.{keys_of, lookup}
@@ -13,6 +13,7 @@ use Rattle.std.proofs.lemmas.List.{get_or-map, length-map, map-append}
 use Rattle.std.proofs.lemmas.List.Sums.{sum_by-cons}
 use Rattle.std.proofs.lemmas.Map.Made.{is_some-lookup}
 use Rattle.std.proofs.lemmas.Map.Keys.{apart_from_distinct, sorted_from_all_adjacent}
+use Rattle.std.proofs.lemmas.Option.{get_or_from_slice_get}
 use Rattle.pdq_dict.specs.Texts.{is_text, noted, text_cmp}
 use Rattle.pdq_dict.proofs.TextOrder.{text_cmp-IsLinearOrder}
 use Rattle.pdq_dict.proofs.Noting.{has}
@@ -59,6 +60,22 @@ module _ {K : Type 0} (f : K → List ℕ) where
       let b : get_or (map f ks) j [] ≡ f (get_or ks j d) = get_or-map f ks j d [] q in
       subst (λ u. is_lt (text_cmp u t) ≡ true) a (rising-IsPartitionedBy (map f ks) t h i j [] p (omega (arith, q, length-map ks f)) (subst (λ u. is_lt (text_cmp u t) ≡ true) (sym b) e))
 
+none_tied : {K : Type 0} (f : K → List ℕ) (t : List ℕ) (ks : List K) → AllByRecursion (λ k. pointwise nat_eq t (f k) ≡ false) ks → AllByRecursion (λ u. is_text t u ≡ false) (map f ks)
+none_tied f t [] all = tt
+none_tied f t (k ∷ ks) all = (sym (texts_ties t (f k)) ∙ all.0, none_tied f t ks all.1)
+
+-- keys that differ have texts that differ
+pub distinct-keys : {K : Type 0} (f : K → List ℕ) (ks : List K) → IsDistinct (λ a b. pointwise nat_eq (f a) (f b)) ks → IsDistinct is_text (map f ks)
+unfolding IsDistinct
+distinct-keys f [] distinct = tt
+distinct-keys f (k ∷ ks) distinct = (none_tied f (f k) ks distinct.0, distinct-keys f ks distinct.1)
+
+-- texts that are sorted and differ rise
+pub rising-sorted : (xs : List (List ℕ)) → IsSorted text_cmp xs → IsDistinct is_text xs → Rises xs
+rising-sorted xs sorted distinct =
+    sorted_from_all_adjacent text_cmp-IsLinearOrder.total xs []
+    (λ i p. less (get_or xs i []) (get_or xs (i + 1) []) (sorted i [] (omega arith) p) (apart_from_distinct is_text xs i (i + 1) [] distinct (omega arith) p))
+
 -- the texts of entries are those of their keys
 pub texts_of_keys : {V : Type 0} (es : List (Vec ℕ × V)) → map (λ (e : Vec ℕ × V). vec_items e.0) es ≡ map vec_items (keys_of es)
 texts_of_keys [] = refl
@@ -95,3 +112,11 @@ count_by-cons p x xs = sum_by-cons (λ y. cond (p y) 1 0) x xs
 pub count_by-map : {K X : Type 0} (p : X → Bool) (f : K → X) (ks : List K) → count_by (λ k. p (f k)) ks ≡ count_by p (map f ks)
 count_by-map p f [] = refl
 count_by-map p f (k ∷ ks) = count_by-cons (λ j. p (f j)) k ks ∙ ap (λ n. cond (p (f k)) 1 0 + n) (count_by-map p f ks) ∙ sym (count_by-cons p (f k) (map f ks))
+
+pub text_there : (xs : List (List ℕ)) (i : ℕ) (t : List ℕ) → slice_get xs i ≡ Some t → t ≡ get_or xs i []
+text_there xs i t at = sym (get_or_from_slice_get xs i t [] at)
+
+pub text_past : (xs : List (List ℕ)) (i : ℕ) → length xs ≤ i → [] ≡ get_or xs i []
+text_past [] i h = refl
+text_past (x ∷ xs) zero h = absurd (omega (arith, h))
+text_past (x ∷ xs) (suc i) h = text_past xs i (omega (arith, h))

@@ -3,12 +3,13 @@ use Rattle.std.proofs.Common.{◌≡◌, ◌≢◌, ◌⊎◌, inl, inr, ℕ, ze
 use Rattle.std.specs.List.{position_or_len, slice_get}
 use Rattle.std.specs.Option.{option_map}
 use Rattle.std.proofs.lemmas.Bool.{cases_eq, cond-true, cond_both, lt-ltb}
-use Rattle.std.proofs.lemmas.List.{get_or-set_other, get_or-set_same, get_or_append_left, get_or_push, length-append, length-map, map-append}
+use Rattle.std.proofs.lemmas.List.{get_or-map, get_or-set_other, get_or-set_same, get_or_append_left, get_or_push, length-append, length-map, map-append}
 use Rattle.std.proofs.lemmas.List.Sorted.{All-permutation, Contains-permutation, IsPermutation-map, length_permutation}
 use Rattle.std.proofs.lemmas.List.Quantifiers.{position-Some}
 use Rattle.std.proofs.lemmas.List.Sums.{fails_before_first, position_or_len_is}
 use Rattle.std.proofs.lemmas.Option.{get_or_from_slice_get, same_Some, slice_get-get_or, slice_get-map, slice_get_within}
-use Rattle.pdq_dict.specs.Texts.{AreCodesBelow, Entry, IsBelow, IsNoteOf, IsNumbered, is_text, noted, number_at_entry, number_of, numbers_of, text_at_entry}
+use Rattle.pdq_dict.specs.declared.text_sets.Mark.{Mark}
+use Rattle.pdq_dict.specs.Texts.{AreCodesBelow, Entry, IsBelow, IsNumbered, is_text, mark_at_entry, noted, number_at_entry, number_at_mark, number_of, numbers_of, text_at_entry, text_of_mark}
 use Rattle.pdq_dict.specs.Dictionary.{AreCodesOf}
 use Rattle.pdq_dict.proofs.Noting.{has}
 use Rattle.pdq_dict.proofs.TextOrder.{is_text-IsEquivalence}
@@ -33,62 +34,70 @@ numbered_more es e h n k p = ap (λ l. slice_get l k) (map-append number_at_entr
     by (inl s) = slice_get_last (numbers_of es) e.1.number k (s ∙ sym (length-map es number_at_entry)) ∙ ap Some (n ∙ sym s)
     by (inr s) = let below : k < length es = omega (arith, p, length-append es (e ∷ [])) in slice_get_left (numbers_of es) e.1.number k (omega (arith, below, length-map es number_at_entry)) ∙ h k below
 
-number_here : (es : List Entry) → IsNumbered es → (i : ℕ) (d : Entry) → i < length es → (get_or es i d).1.number ≡ i
+pub number_here : (es : List Entry) → IsNumbered es → (i : ℕ) (d : Entry) → i < length es → (get_or es i d).1.number ≡ i
 number_here es h i d p = same_Some _ _ (sym (ap (option_map number_at_entry) (slice_get-get_or es i d p)) ∙ sym (slice_get-map number_at_entry es i) ∙ h i p)
 
--- numbered entries have their numbers in their own texts
-pub notes_of_numbered : (es : List Entry) → IsNumbered es → All (IsNoteOf (map text_at_entry es)) es
-notes_of_numbered es h i d p =
-    ap (slice_get (map text_at_entry es)) (number_here es h i d p) ∙ slice_get-map text_at_entry es i ∙ ap (option_map text_at_entry) (slice_get-get_or es i d p)
+-- the marks of notes have numbers below their count
+pub below_of_numbered : (es : List Entry) → IsNumbered es → All (IsBelow (length es)) (map mark_at_entry es)
+below_of_numbered [] h i d p = absurd (omega arith)
+below_of_numbered (e ∷ es) h i d p =
+    let less : i < length (e ∷ es) = omega (arith, p, length-map (e ∷ es) mark_at_entry) in
+    subst (IsBelow (length (e ∷ es))) (sym (get_or-map mark_at_entry (e ∷ es) i e d less)) (omega (arith, less, number_here (e ∷ es) h i e less))
 
-pub below_of_numbered : (es : List Entry) → IsNumbered es → All (IsBelow (length es)) es
-below_of_numbered es h i d p = subst (λ n. n < length es) (sym (number_here es h i d p)) p
-
-entry_of_number : (es : List Entry) (place number : ℕ) (d : Entry) → slice_get (numbers_of es) place ≡ Some number → (place < length es) × ((get_or es place d).1.number ≡ number)
-entry_of_number es place number d h =
-    let p : place < length es = omega (arith, slice_get_within (numbers_of es) place number h, length-map es number_at_entry) in
-    (p, same_Some _ _ (sym (ap (option_map number_at_entry) (slice_get-get_or es place d p)) ∙ sym (slice_get-map number_at_entry es place) ∙ h))
+mark_of_number : (ms : List Mark) (place number : ℕ) (d : Mark) → slice_get (map number_at_mark ms) place ≡ Some number → (place < length ms) × ((get_or ms place d).number ≡ number)
+mark_of_number ms place number d h =
+    let p : place < length ms = omega (arith, slice_get_within (map number_at_mark ms) place number h, length-map ms number_at_mark) in
+    (p, same_Some _ _ (sym (ap (option_map number_at_mark) (slice_get-get_or ms place d p)) ∙ sym (slice_get-map number_at_mark ms place) ∙ h))
 
 -- the number at a place is below where all are
-pub number_below : (es : List Entry) (n place number : ℕ) → All (IsBelow n) es → slice_get (numbers_of es) place ≡ Some number → number < n
+pub number_below : (ms : List Mark) (n place number : ℕ) → All (IsBelow n) ms → slice_get (map number_at_mark ms) place ≡ Some number → number < n
 number_below [] n place number all h = absurd (true≢false (sym (ap is_some h)))
-number_below (e ∷ es) n place number all h = let t = entry_of_number (e ∷ es) place number e h in subst (λ m. m < n) t.1 (all place e t.0)
+number_below (m ∷ ms) n place number all h = let t = mark_of_number (m ∷ ms) place number m h in subst (λ k. k < n) t.1 (all place m t.0)
 
-note_here : (es : List Entry) (notes : List (List ℕ)) (place number : ℕ) → All (IsNoteOf notes) es → slice_get (numbers_of es) place ≡ Some number →
-    slice_get (map text_at_entry es) place ≡ slice_get notes number
-note_here [] notes place number all h = absurd (true≢false (sym (ap is_some h)))
-note_here (e ∷ es) notes place number all h =
-    let t = entry_of_number (e ∷ es) place number e h in
-    slice_get-map text_at_entry (e ∷ es) place ∙ ap (option_map text_at_entry) (slice_get-get_or (e ∷ es) place e t.0) ∙ sym (all place e t.0) ∙ ap (slice_get notes) t.1
+text_here : (ms : List Mark) (texts : List (List ℕ)) (place number : ℕ) → All (IsBelow (length texts)) ms → slice_get (map number_at_mark ms) place ≡ Some number →
+    slice_get (map (text_of_mark texts) ms) place ≡ slice_get texts number
+text_here [] texts place number all h = absurd (true≢false (sym (ap is_some h)))
+text_here (m ∷ ms) texts place number all h =
+    let t = mark_of_number (m ∷ ms) place number m h in
+    let below : number < length texts = subst (λ n. n < length texts) t.1 (all place m t.0) in
+    slice_get-map (text_of_mark texts) (m ∷ ms) place ∙ ap (option_map (text_of_mark texts)) (slice_get-get_or (m ∷ ms) place m t.0) ∙ ap (λ n. Some (get_or texts n [])) t.1
+    ∙ sym (slice_get-get_or texts number [] below)
 
 -- one more place
-pub codes_more : (es : List Entry) (places : List ℕ) (place number : ℕ) → slice_get (numbers_of es) place ≡ Some number → number < length places →
-    AreCodesBelow place es places → AreCodesBelow (place + 1) es (set places number place)
-codes_more es places place number here room before notes all j n below at = by (cases_eq n number)
+pub codes_more : (ms : List Mark) (places : List ℕ) (place number : ℕ) → slice_get (map number_at_mark ms) place ≡ Some number → number < length places →
+    AreCodesBelow place ms places → AreCodesBelow (place + 1) ms (set places number place)
+codes_more ms places place number here room before texts all j n below at = by (cases_eq n number)
   where
-    by : (n ≡ number) ⊎ (n ≢ number) → slice_get (map text_at_entry es) (get_or (set places number place) n 0) ≡ slice_get notes n
+    by : (n ≡ number) ⊎ (n ≢ number) → slice_get (map (text_of_mark texts) ms) (get_or (set places number place) n 0) ≡ slice_get texts n
     by (inl s) =
-        ap (λ m. slice_get (map text_at_entry es) (get_or (set places number place) m 0)) s ∙ ap (slice_get (map text_at_entry es)) (get_or-set_same places number place 0 room)
-        ∙ note_here es notes place number all here ∙ ap (slice_get notes) (sym s)
+        ap (λ m. slice_get (map (text_of_mark texts) ms) (get_or (set places number place) m 0)) s ∙ ap (slice_get (map (text_of_mark texts) ms)) (get_or-set_same places number place 0 room)
+        ∙ text_here ms texts place number all here ∙ ap (slice_get texts) (sym s)
     by (inr s) =
-        let other : j ≢ place = λ e. s (same_Some _ _ (sym at ∙ ap (slice_get (numbers_of es)) e ∙ here)) in
-        ap (slice_get (map text_at_entry es)) (get_or-set_other places number n place 0 s) ∙ before notes all j n (omega (arith, below, other)) at
+        let other : j ≢ place = λ e. s (same_Some _ _ (sym at ∙ ap (slice_get (map number_at_mark ms)) e ∙ here)) in
+        ap (slice_get (map (text_of_mark texts) ms)) (get_or-set_other places number n place 0 s) ∙ before texts all j n (omega (arith, below, other)) at
 
 number_there : (es : List Entry) → IsNumbered es → (n : ℕ) → n < length es → Contains (numbers_of es) n
 number_there es h n p = (n, omega (arith, p, length-map es number_at_entry), get_or_from_slice_get (numbers_of es) n n n (h n p))
 
--- numbered entries in another order, and for each number the place of its text there
-pub codes_of_order : (before after : List Entry) (places : List ℕ) → IsNumbered before → IsPermutation before after → length places ≡ length after → AreCodesBelow (length after) after places →
-    AreCodesOf (map text_at_entry before) (map text_at_entry after) places
-codes_of_order before after places numbered moved count codes =
-    let same = length_permutation before after moved in
+numbers_of_marks : (es : List Entry) → map number_at_mark (map mark_at_entry es) ≡ numbers_of es
+numbers_of_marks [] = refl
+numbers_of_marks (e ∷ es) = ap (λ l. e.1.number ∷ l) (numbers_of_marks es)
+
+-- the marks of notes in another order, and for each number the place of its mark there
+pub codes_of_order : (es : List Entry) (marks : List Mark) (places : List ℕ) → IsNumbered es → IsPermutation (map mark_at_entry es) marks → length places ≡ length marks →
+    AreCodesBelow (length marks) marks places → AreCodesOf (map text_at_entry es) (map (text_of_mark (map text_at_entry es)) marks) places
+codes_of_order es marks places numbered moved count codes =
+    let same : length marks ≡ length es = length_permutation (map mark_at_entry es) marks moved ∙ length-map es mark_at_entry in
+    let below : All (IsBelow (length (map text_at_entry es))) marks =
+    subst (λ n. All (IsBelow n) marks) (sym (length-map es text_at_entry)) (All-permutation (IsBelow (length es)) (map mark_at_entry es) marks moved (below_of_numbered es numbered)) in
+    let turned : IsPermutation (numbers_of es) (map number_at_mark marks) =
+    subst (λ (l : List ℕ). IsPermutation l (map number_at_mark marks)) (numbers_of_marks es) (IsPermutation-map number_at_mark (map mark_at_entry es) marks moved) in
     record {
-      count = count ∙ same ∙ sym (length-map before text_at_entry);
+      count = count ∙ same ∙ sym (length-map es text_at_entry);
       each = λ n p.
-          let there = Contains-permutation (numbers_of before) (numbers_of after) n (IsPermutation-map number_at_entry before after moved) (number_there before numbered n (omega (arith, p, length-map before text_at_entry))) in
-          let at : slice_get (numbers_of after) there.0 ≡ Some n = slice_get-get_or (numbers_of after) there.0 n there.1 ∙ ap Some there.2 in
-          codes (map text_at_entry before) (All-permutation (IsNoteOf (map text_at_entry before)) before after moved (notes_of_numbered before numbered)) there.0 n
-          (omega (arith, there.1, length-map after number_at_entry)) at;
+          let there = Contains-permutation (numbers_of es) (map number_at_mark marks) n turned (number_there es numbered n (omega (arith, p, length-map es text_at_entry))) in
+          let at : slice_get (map number_at_mark marks) there.0 ≡ Some n = slice_get-get_or (map number_at_mark marks) there.0 n there.1 ∙ ap Some there.2 in
+          codes (map text_at_entry es) below there.0 n (omega (arith, there.1, length-map marks number_at_mark)) at;
     }
 
 either_false : (a b : Bool) → (a || b) ≡ false → (a ≡ false) × (b ≡ false)

@@ -1,5 +1,5 @@
 -- Words that stand for values and cells: a number is itself, a text is its code in the one dictionary of all tables, Null is the least word.
-use Rattle.std.specs.Prelude.{⊤, ◌≡◌, ℕ, ◌^◌, ◌<◌, List, [], ◌∷◌, Bool, if◌then◌else◌, ℤ, pos, nat_abs, map, Some, unwrap_or, slice_index_or}
+use Rattle.std.specs.Prelude.{⊤, ◌≡◌, ℕ, ◌^◌, ◌<◌, List, [], ◌∷◌, if◌then◌else◌, ℤ, pos, nat_abs, map, Some, unwrap_or, slice_index_or}
 use Rattle.pdq_value.specs.declared.cells.Cell.{Cell}
 use Rattle.pdq_value.specs.declared.cells.Cell.TheVariants as cell
 use Rattle.pdq_value.specs.declared.shapes.Column.{Column}

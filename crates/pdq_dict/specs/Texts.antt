@@ -1,5 +1,5 @@
 -- Texts, their order, texts beside their key prefixes, and texts noted as they come.
-use Rattle.std.specs.Prelude.{◌≡◌, ℕ, ◌<◌, ◌≤◌, List, [], ◌∷◌, ◌++◌, All, Bool, Option, Some, true, if◌then◌else◌, length, map, position, slice_get, slice_index}
+use Rattle.std.specs.Prelude.{◌≡◌, ℕ, ◌<◌, ◌≤◌, List, [], ◌∷◌, ◌++◌, All, Bool, Option, Some, true, if◌then◌else◌, length, map, position, slice_get, slice_index, slice_index_or}
 use Rattle.std.specs.List.{list_any}
 use Rattle.std.specs.Str.{is_utf8}
 use Rattle.std.specs.Ordering.{is_eq, nat_cmp, on, then_cmp}
@@ -46,9 +46,22 @@ pub record IsMarked (e : Entry) : Type 0 where
   pub bytes : AreBytes e.0.items
   pub utf8 : IsUtf8Text e.0.items
 
+abbrev pub mark_at_entry : Entry → Mark
+mark_at_entry e = e.1
+
+-- the text that a mark is of, among texts by their numbers
+abbrev pub text_of_mark : List (List ℕ) → Mark → List ℕ
+text_of_mark texts m = slice_index_or texts m.number []
+
+-- a mark of one of these texts
+pub record IsMarkOf (texts : List (List ℕ)) (m : Mark) : Type 0 where
+  pub prefix : m.prefix ≡ text_prefix (text_of_mark texts m)
+  pub bytes : AreBytes (text_of_mark texts m)
+  pub there : m.number < length texts
+
 -- by key prefixes, and by texts where those tie
-unfoldable pub marked_cmp : Entry → Entry → Ordering
-marked_cmp = then_cmp (on (λ (e : Entry). e.1.prefix) nat_cmp) (on (λ (e : Entry). e.0.items) text_cmp)
+unfoldable pub marks_cmp : List (List ℕ) → Mark → Mark → Ordering
+marks_cmp texts = then_cmp (on (λ (m : Mark). m.prefix) nat_cmp) (on (text_of_mark texts) text_cmp)
 
 -- each text has its place as its number
 abbrev pub IsNumbered : List Entry → Type 0
@@ -64,15 +77,14 @@ pub record AreNotes (entries : List Entry) : Type 0 where
   pub numbered : IsNumbered entries
   pub few : length entries ≤ text_limit
 
--- an entry has a number below this one
-abbrev pub IsBelow : ℕ → Entry → Type 0
-IsBelow n e = e.1.number < n
+-- a mark has a number below this one
+abbrev pub IsBelow : ℕ → Mark → Type 0
+IsBelow n m = m.number < n
 
--- an entry has its number in these notes
-abbrev pub IsNoteOf : List (List ℕ) → Entry → Type 0
-IsNoteOf notes e = slice_get notes e.1.number ≡ Some e.0.items
+abbrev pub number_at_mark : Mark → ℕ
+number_at_mark m = m.number
 
--- the texts of the first k entries stand, by the place that their numbers have here, where the notes with those numbers say
-abbrev pub AreCodesBelow : ℕ → List Entry → List ℕ → Type 0
-AreCodesBelow k entries places = (notes : List (List ℕ)) → All (IsNoteOf notes) entries → (j n : ℕ) → j < k → slice_get (numbers_of entries) j ≡ Some n →
-    slice_get (map text_at_entry entries) (slice_index places n) ≡ slice_get notes n
+-- the texts of the first k marks stand, by the place that their numbers have here, where the texts with those numbers say
+abbrev pub AreCodesBelow : ℕ → List Mark → List ℕ → Type 0
+AreCodesBelow k marks places = (texts : List (List ℕ)) → All (IsBelow (length texts)) marks → (j n : ℕ) → j < k → slice_get (map number_at_mark marks) j ≡ Some n →
+    slice_get (map (text_of_mark texts) marks) (slice_index places n) ≡ slice_get texts n

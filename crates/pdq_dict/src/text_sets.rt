@@ -1,9 +1,9 @@
 //! Texts noted as they come, each once and with a number, and the same texts in order.
-ghost use Rattle.std.specs.Prelude.{◌≡◌, ◌<◌, ◌≤◌, ◌↔◌, [], All, IfOk, IfSome, IsPermutation, IsSome, OnOk, Some, count_by, length, map, option_copied, position, slice_get, slice_index_or};
+ghost use Rattle.std.specs.Prelude.{◌≡◌, ◌<◌, ◌≤◌, [], All, IfOk, IsPermutation, IsSorted, OnOk, Some, count_by, length, map, position, slice_get, slice_index_or};
 ghost use Rattle.std.specs.List.Sorted.{IsStrictlySortedBy};
 ghost use Rattle.std.specs.Ordering.{is_lt, nat_cmp, ordering_then};
 ghost use Rattle.pdq_dict.specs.Dictionary.{AreCodesOf, cell_limit};
-ghost use Rattle.pdq_dict.specs.Texts.{AreCodesBelow, IsBelow, IsMarked, IsUtf8Text, is_text, number_of, noted, numbers_of, text_at_entry, text_cmp};
+ghost use Rattle.pdq_dict.specs.Texts.{AreCodesBelow, IsBelow, IsMarkOf, IsUtf8Text, is_text, mark_at_entry, number_at_mark, number_of, noted, text_at_entry, text_cmp, text_of_mark};
 
 use indexmap::IndexMap;
 use pdq_base::Memory;
@@ -40,68 +40,84 @@ impl Model for Notes {
     ghost invariant = { λ n. AreNotes n.texts.entries };
 }
 
-/// Texts, each once, seen as the list of them.
+/// Texts, each once, in an order of their own, seen as the list of them in that order: the texts as they came, and their marks in order.
 #[derive(Debug, Drop)]
 pub(crate) struct TextSet {
     texts: IndexMap<Vec<u8>, Mark>,
+    order: Vec<Mark>,
 }
 
 impl Model for TextSet {
     ghost use Rattle.std.specs.Prelude.{List, ℕ, map};
-    ghost use Rattle.indexmap.specs.IndexMap.{keys};
+    ghost use Rattle.pdq_dict.specs.Texts.{text_at_entry, text_of_mark};
 
     ghost Value = { List (List ℕ) };
 
-    ghost view = { λ s. map (λ t. t.items) (keys s.texts) };
+    ghost view = { λ s. map (text_of_mark (map text_at_entry s.texts.entries)) s.order.items };
 }
 
-/// By key prefixes, and by bytes where those tie.
-fn compare_marked(a: &Vec<u8>, a_mark: &Mark, b: &Vec<u8>, b_mark: &Mark) -> Ordering
-    ensures order { result ≡ ordering_then (nat_cmp a_mark.now.prefix b_mark.now.prefix) (text_cmp a.now.items b.now.items) }
+/// The text with this number, or the empty text where there is none.
+fn text_numbered(texts: &IndexMap<Vec<u8>, Mark>, number: u32) -> &[u8]
+    ensures text { result.now ≡ slice_index_or (map text_at_entry texts.now.entries) number [] }
 {
-    let order = a_mark.prefix.cmp(&b_mark.prefix);
+    match texts.get_index(number as usize) {
+        Some((text, _)) => text,
+        None => &[],
+    }
+}
+
+/// By key prefixes, and by the bytes of the texts where those tie.
+fn compare_marks(texts: &IndexMap<Vec<u8>, Mark>, a: &Mark, b: &Mark) -> Ordering
+    ensures order { result ≡ ordering_then (nat_cmp a.now.prefix b.now.prefix) (text_cmp (text_of_mark (map text_at_entry texts.now.entries) a.now) (text_of_mark (map text_at_entry texts.now.entries) b.now)) }
+{
+    let order = a.prefix.cmp(&b.prefix);
     if order.is_ne() {
         return order;
     }
-    a.cmp(b)
+    text_numbered(texts, a.number).cmp(&text_numbered(texts, b.number))
 }
 
-/// Puts the texts in the order of their bytes.
-fn sort_texts(texts: &mut IndexMap<Vec<u8>, Mark>) -> Result<(), Memory>
-    requires marked { All IsMarked texts.old.entries }
-    ensures rising { OnOk result (IsStrictlySortedBy text_cmp (map text_at_entry texts.new.entries)) }
-    ensures same { IsPermutation texts.old.entries texts.new.entries }
+/// The marks of the texts, by their numbers.
+fn marks_of(alloc: Global, texts: &IndexMap<Vec<u8>, Mark>) -> Result<Vec<Mark>, Memory>
+    ensures marks { IfOk result (λ v. v.items ≡ map mark_at_entry texts.now.entries) }
 {
-    let Ok(()) = texts.sort_unstable_by(|a, a_mark, b, b_mark| compare_marked(a, a_mark, b, b_mark))
-    else {
+    let Ok(marks) = texts.values().copied().collect(alloc) else {
         return Err(Memory);
     };
-    Ok(())
+    Ok(marks)
 }
 
-/// The number of the text at a place.
-fn number_at(texts: &IndexMap<Vec<u8>, Mark>, place: usize) -> u32
-    requires there { place < length texts.now.entries }
-    ensures number { slice_get (numbers_of texts.now.entries) place ≡ Some result }
+/// Puts the marks of texts in the order of the texts' bytes.
+fn sort_marks(texts: &IndexMap<Vec<u8>, Mark>, marks: &mut Vec<Mark>)
+    requires marked { All (IsMarkOf (map text_at_entry texts.now.entries)) marks.old.items }
+    ensures sorted { IsSorted text_cmp (map (text_of_mark (map text_at_entry texts.now.entries)) marks.new.items) }
+    ensures same { IsPermutation marks.old.items marks.new.items }
 {
-    match texts.get_index(place) {
-        Some((_, mark)) => mark.number,
-        None => 0,
-    }
+    marks.sort_unstable_by(|a, b| compare_marks(texts, a, b));
 }
 
-/// For each number the place at which its text stands.
-fn places_of(alloc: Global, texts: &IndexMap<Vec<u8>, Mark>) -> Result<Vec<u32>, Memory>
-    requires few { length texts.now.entries ≤ cell_limit }
-    requires numbers { All (IsBelow (length texts.now.entries)) texts.now.entries }
-    ensures count { IfOk result (λ v. length v.items ≡ length texts.now.entries) }
-    ensures codes { IfOk result (λ v. AreCodesBelow (length texts.now.entries) texts.now.entries v.items) }
+/// The number of the mark at a place.
+fn number_at(marks: &[Mark], place: usize) -> u32
+    requires there { place < length marks.now }
+    ensures number { slice_get (map number_at_mark marks.now) place ≡ Some result }
 {
-    let Ok(mut places) = vec![in alloc; 0u32; texts.len()] else {
+    let mark = &marks[place];
+    mark.number
+}
+
+/// For each number the place at which its mark stands.
+fn places_of(alloc: Global, count: usize, marks: &[Mark]) -> Result<Vec<u32>, Memory>
+    requires count { count ≡ length marks.now }
+    requires few { length marks.now ≤ cell_limit }
+    requires numbers { All (IsBelow (length marks.now)) marks.now }
+    ensures count { IfOk result (λ v. length v.items ≡ length marks.now) }
+    ensures codes { IfOk result (λ v. AreCodesBelow (length marks.now) marks.now v.items) }
+{
+    let Ok(mut places) = vec![in alloc; 0u32; count] else {
         return Err(Memory);
     };
-    for place in 0..texts.len() {
-        let number = number_at(texts, place);
+    for place in 0..marks.len() {
+        let number = number_at(marks, place);
         places[number as usize] = place as u32;
     }
     Ok(places)
@@ -157,31 +173,50 @@ impl Notes {
         ensures utf8 { IfOk result (λ r. All IsUtf8Text r.0) }
         ensures codes { IfOk result (λ r. AreCodesOf self r.0 r.1.items) }
     {
-        let Notes { mut texts } = self;
-        sort_texts(&mut texts)?;
-        let places = places_of(alloc, &texts)?;
-        Ok((TextSet { texts }, places))
+        let Notes { texts } = self;
+        let count = texts.len();
+        let mut order = marks_of(alloc, &texts)?;
+        sort_marks(&texts, &mut order);
+        let places = places_of(alloc, count, &order)?;
+        Ok((TextSet { texts, order }, places))
     }
 }
 
 impl TextSet {
-    /// The place of a text.
-    pub fn position(&self, text: &[u8]) -> Option<usize>
-        ensures position { result ≡ position (is_text text.now) self.now }
-    {
-        self.texts.get_index_of(text)
-    }
-
     /// How many texts are less, where the texts are in order.
     pub fn lesser(&self, text: &[u8]) -> usize
         requires rising { IsStrictlySortedBy text_cmp self.now }
         ensures count { result ≡ count_by (λ t. is_lt (text_cmp t text.now)) self.now }
     {
-        self.texts.partition_point(
-            |t: &Vec<u8>, _: &Mark| -> bool
-                ensures { result ≡ is_lt (text_cmp t.now.items text.entry.now) }
-            { t.as_slice().cmp(&text).is_lt() },
+        let texts = &self.texts;
+        self.order.partition_point(
+            |mark: &Mark| -> bool
+                ensures { result ≡ is_lt (text_cmp (text_of_mark (map text_at_entry texts.entry.now.entries) mark.now) text.entry.now) }
+            { text_numbered(texts, mark.number).cmp(&text).is_lt() },
         )
+    }
+
+    /// How many texts there are.
+    fn len(&self) -> usize
+        ensures count { result ≡ length self.now }
+    {
+        self.order.len()
+    }
+
+    /// The place of a text, where the texts are in order.
+    pub fn position(&self, text: &[u8]) -> Option<usize>
+        requires rising { IsStrictlySortedBy text_cmp self.now }
+        ensures position { result ≡ position (is_text text.now) self.now }
+    {
+        let place = self.lesser(text);
+        if place >= self.len() {
+            return None;
+        }
+        if pdq_base::is_text(self.text(place), text) {
+            Some(place)
+        } else {
+            None
+        }
     }
 
     /// The text at a place.
@@ -189,19 +224,18 @@ impl TextSet {
         requires there { place < length self.now }
         ensures text { slice_get self.now place ≡ Some result.now }
     {
-        match self.texts.get_index(place) {
-            Some((text, _)) => text,
-            None => &[],
-        }
+        text_numbered(&self.texts, self.order[place].number)
     }
 
     /// The text at a place, or the empty text where there is none.
+    #[tactic(auto, using(crate::proofs::Keys::text_there, crate::proofs::Keys::text_past))]
     pub fn text_or_empty(&self, place: usize) -> &[u8]
         ensures text { result.now ≡ slice_index_or self.now place [] }
     {
-        match self.texts.get_index(place) {
-            Some((text, _)) => text,
-            None => &[],
+        if place < self.len() {
+            self.text(place)
+        } else {
+            &[]
         }
     }
 }

@@ -1,9 +1,11 @@
+pub mod AsciiRecords
 pub mod Decoding
 pub mod FileRecords
 pub mod Finishing
 pub mod FlatRows
 pub mod Layouts
 pub mod NotedLaws
+pub mod NotedReads
 pub mod NotedTables
 pub mod Recoding
 pub mod RowKinds

@@ -9,14 +9,14 @@ use Rattle.pdq_value.specs.declared.shapes.Column.{Column}
 use Rattle.pdq_value.specs.declared.shapes.Table.{Table}
 use Rattle.pdq_value.specs.declared.shapes.Value.{Value}
 use Rattle.pdq_value.specs.PlainTable.{most_rows}
-use Rattle.pdq_value.specs.Tables.{IsRowOf, IsShape, IsTable, ShapeView, TableView, shape_of, table_of}
+use Rattle.pdq_value.specs.Tables.{IsRowOf, IsShape, IsTable, ShapeView, TableView, shape_of, table_of, no_table}
 use Rattle.pdq_schema.specs.Fragments.{CutsRow, fragment_count, fragment_rows}
 use Rattle.pdq_schema.specs.Schemas.{AreCutsOf, CutView, IsCutOf, SchemaView, rounds, ranges}
 use Rattle.pdq_table.specs.declared.stored_table.StoredTable.{StoredTable}
 use Rattle.pdq_dict.specs.Coding.{decoded_row}
 use Rattle.pdq_table.specs.declared.stored_table.Spot.{Spot}
 use Rattle.pdq_table.specs.Layout.{AreStored, HoldsRow, HoldsRows, HoldsWords, IsCutBy, coded_fragment, decoded_fragment, decoded_fragments, fragment_at, row_at, row_words_at, rows_at, table_stored, view_of, width_of, words_at}
-use Rattle.pdq_table.specs.Storing.{HasFragment, IsStored, StoredView, fragment_of, no_table, width_at}
+use Rattle.pdq_table.specs.Storing.{HasFragment, IsStored, StoredView, fragment_of, width_at}
 use Rattle.pdq_table.specs.Words.{FragmentView, no_rows}
 
 pub row_length : (columns : List Column) (row : List Value) → IsRowOf columns row → length row ≡ length columns

@@ -1,5 +1,5 @@
 -- Rows and tables, read one after another.
-use Rattle.std.proofs.Common.{ℕ, ◌≡◌, ◌<◌, ◌≤◌, ◌∙◌, ◌+◌, ◌*◌, Bool, true, false, cond, List, [], ◌∷◌, ◌++◌, All, length, drop, take, get_or, add-one, suc-mul, zero-mul, ap, ap₂, sym, refl, append_assoc, arith, Option, Some, None, Result, Ok, Err, fold, flat_map, subst, inl, inr}
+use Rattle.std.proofs.Common.{ℕ, ◌≡◌, ◌<◌, ◌≤◌, ◌∙◌, ◌+◌, ◌*◌, Bool, true, false, cond, List, [], ◌∷◌, ◌++◌, All, length, length-append, drop, take, get_or, add-one, suc-mul, zero-mul, ap, ap₂, sym, refl, append_assoc, arith, Option, Some, None, Result, Ok, Err, fold, flat_map, subst, inl, inr}
 use Rattle.std.specs.Prelude.{nat_lt, slice_get, sum_by}
 use Rattle.std.specs.Global.{Vec}
 use Rattle.std.proofs.lemmas.Bool.Decides.{nat_tests}
@@ -11,15 +11,15 @@ use Rattle.pdq_value.specs.declared.loading.LoadFault.{LoadFault}
 use Rattle.pdq_value.specs.declared.shapes.Column.{Column}
 use Rattle.pdq_value.specs.declared.shapes.Value.{Value}
 use Rattle.pdq_dict.specs.Dictionary.{cell_limit, cells_in}
-use Rattle.pdq_value.specs.PlainTable.{most_rows, with_row, with_rows}
+use Rattle.pdq_value.specs.PlainTable.{most_rows, with_row, with_rows, Refuses}
 use Rattle.pdq_value.specs.Tables.{IsKind, IsRowOf, IsTable, ShapeView, TableView, shape_of}
-use Rattle.pdq_table.specs.Loading.{Refuses, contents_of, header_fault, most_bytes, onto, records_of, row_of, rows_below, rows_from, rows_in, table_from, tables_from, too_long_at}
+use Rattle.pdq_table.specs.Loading.{contents_of, header_fault, most_bytes, onto, records_of, row_of, rows_below, rows_from, rows_in, table_from, tables_from, too_long_at}
 use Rattle.pdq_dict.specs.Dictionary.{texts_of, texts_of_row, texts_of_table}
 use Rattle.pdq_dict.specs.Texts.{noted}
 use Rattle.pdq_dict.proofs.Noting.{fold_noted_push}
 use Rattle.pdq_schema.specs.Schemas.{CutView, IsSchema, SchemaView}
 use Rattle.pdq_table.specs.declared.stored_table.StoredTable.{StoredTable}
-use Rattle.pdq_table.specs.Layout.{AreNotedTables, AreReadRows, AreReadTables, IsNotedTable, IsReadTable, row_at}
+use Rattle.pdq_table.specs.Layout.{AreNotedTables, AreReadRows, AreReadTables, IsNotedTable, IsReadTable, TakesRow, row_at}
 use Rattle.pdq_table.specs.Storing.{AreTablesOf}
 use Rattle.pdq_table.proofs.NotedLaws.{keeps-noted}
 use Rattle.pdq_table.proofs.NotedTables.{noted_tables-kept, noted_tables-more}
@@ -152,15 +152,23 @@ rows_so_far-none columns cut table cells left notes t empty = record { rows = []
     none_before (Err e) = refl
 
 pub rows_so_far-more : (all : Result (List (List Value)) LoadFault) (columns : List Column) (cut : CutView) (table row_no cells : ℕ) (left more : List (List (List ℕ))) (before notes after : List (List ℕ)) (t new : StoredTable)
-    (row : List Value) (fields : List (List ℕ)) → RowsSoFar all columns cut table row_no cells left before notes t → left ≡ fields ∷ more → row_of columns (record { table = table; row = row_no }) cells fields ≡ Ok row →
-    after ≡ fold noted notes (texts_of_row row) → ((rows : List (List Value)) → IsNotedTable notes cut t rows → IsNotedTable after cut new (rows ++ row ∷ [])) →
-    RowsSoFar all columns cut table (row_no + 1) (cells + length columns) more before after new
-rows_so_far-more all columns cut table row_no cells left more before notes after t new row fields far taken reads texts takes = record {
-  rows = far.rows ++ row ∷ [];
-  stored = takes far.rows far.stored;
-  texts = texts ∙ ap (λ (l : List (List ℕ)). fold noted l (texts_of_row row)) far.texts ∙ sym (fold_noted_push texts_of_row before far.rows row);
-  said = one_row all columns table row_no cells far.rows left far.said row fields more taken reads;
+    (fields : List (List ℕ)) → RowsSoFar all columns cut table row_no cells left before notes t → left ≡ fields ∷ more →
+    TakesRow (row_of columns (record { table = table; row = row_no }) cells fields) cut notes after t new → RowsSoFar all columns cut table (row_no + 1) (cells + length columns) more before after new
+rows_so_far-more all columns cut table row_no cells left more before notes after t new fields far taken takes = record {
+  rows = far.rows ++ takes.row ∷ [];
+  stored = takes.table far.rows far.stored;
+  texts = takes.texts ∙ ap (λ (l : List (List ℕ)). fold noted l (texts_of_row takes.row)) far.texts ∙ sym (fold_noted_push texts_of_row before far.rows takes.row);
+  said = one_row all columns table row_no cells far.rows left far.said takes.row fields more taken takes.said;
 }
+
+-- a record that is refused
+pub rows_refused : (all : Result (List (List Value)) LoadFault) (columns : List Column) (cut : CutView) (table row_no cells : ℕ) (left more : List (List (List ℕ))) (before notes : List (List ℕ)) (t : StoredTable)
+    (fields : List (List ℕ)) (e : LoadFault) → RowsSoFar all columns cut table row_no cells left before notes t → left ≡ fields ∷ more →
+    Refuses (row_of columns (record { table = table; row = row_no }) cells fields) e → Refuses all e
+rows_refused all columns cut table row_no cells left more before notes t fields e far taken (inl memory) = inl memory
+rows_refused all columns cut table row_no cells left more before notes t fields e far taken (inr said) =
+    inr (far.said ∙ ap (λ ls. after_rows far.rows (rows_from columns table row_no cells ls)) taken
+    ∙ ap (λ (r : Result (List Value) LoadFault). after_rows far.rows (with_row r (rows_from columns table (row_no + 1) (cells + length columns) more))) said)
 
 pub rows_so_far-end : (all : Result (List (List Value)) LoadFault) (columns : List Column) (cut : CutView) (table row_no cells : ℕ) (left : List (List (List ℕ))) (before notes : List (List ℕ)) (t : StoredTable) →
     RowsSoFar all columns cut table row_no cells left before notes t → left ≡ [] → AreReadRows all cut before notes t
@@ -180,6 +188,17 @@ rows_below_header columns table cells records header more is good =
 -- as many rows as spots
 pub length-noted_rows : (notes : List (List ℕ)) (cut : CutView) (t : StoredTable) (rows : List (List Value)) → IsNotedTable notes cut t rows → length t.spots.items ≡ length rows
 length-noted_rows notes cut t rows is = sym (length-map t.spots.items (row_at is.fragments)) ∙ ap length is.order
+
+-- a row more is a spot more
+pub one_row_more : {meant : Result (List Value) LoadFault} (cut : CutView) (before after : List (List ℕ)) (old new : StoredTable) → TakesRow meant cut before after old new →
+    (rows : List (List Value)) → IsNotedTable before cut old rows → length new.spots.items ≡ length old.spots.items + 1
+one_row_more cut before after old new takes rows is =
+    omega (
+      arith,
+      length-noted_rows after cut new (rows ++ takes.row ∷ []) (takes.table rows is),
+      length-noted_rows before cut old rows is,
+      length-append rows (takes.row ∷ []),
+    )
 
 table_with : (table cells : ℕ) (shape : ShapeView) (bytes : List ℕ) (u : TableView) (r : Result (List (List Value)) LoadFault) → rows_in shape.columns table cells (records_of bytes) ≡ r →
     All (λ (c : Column). IsKind c.kind) shape.columns → with_rows shape r ≡ Ok u → IsTable u × (u.shape ≡ shape)

@@ -1,5 +1,6 @@
 -- The fragments of a table hold its rows.
 use Rattle.std.proofs.Common.{ℕ, zero, suc, ◌≡◌, ◌≢◌, ◌<◌, ◌≤◌, ◌+◌, ◌∙◌, Bool, cond, List, [], ◌∷◌, ◌++◌, length, take, refl, ap, sym, subst, arith, get_or, add-one, append_assoc, inl, inr, ◌⊎◌, IsPermutation, flat_map}
+use Rattle.pdq_value.specs.Tables.{no_table}
 use Rattle.std.specs.Prelude.{◌==◌}
 use Rattle.std.specs.List.{range_with_len}
 use Rattle.std.proofs.lemmas.Bool.{cases_eq}
@@ -12,7 +13,6 @@ use Rattle.pdq_schema.specs.Fragments.{fragment_count, fragment_number, fragment
 use Rattle.pdq_schema.specs.Schemas.{CutView, IsCutOf, rounds}
 use Rattle.pdq_schema.proofs.FragmentLaws.{number-within}
 use Rattle.pdq_table.specs.Laws.{FragmentsHoldTheRows}
-use Rattle.pdq_table.specs.Storing.{no_table}
 use Rattle.pdq_table.proofs.Layouts.{fragment_rows_push, other_number, same_number}
 use Rattle.pdq_table.proofs.Stores.{cut_is}
 

@@ -1,10 +1,11 @@
 -- The laws of stored tables.
 use Rattle.std.specs.Prelude.{ℕ, ◌<◌, List, length, slice_index_or}
+use Rattle.pdq_value.specs.Tables.{no_table}
 use Rattle.std.specs.List.{flat_map, range_with_len}
 use Rattle.std.specs.List.Sorted.{IsPermutation}
 use Rattle.pdq_schema.specs.Fragments.{fragment_count}
 use Rattle.pdq_schema.specs.Schemas.{rounds}
-use Rattle.pdq_table.specs.Storing.{IsStored, StoredView, fragment_of, no_table}
+use Rattle.pdq_table.specs.Storing.{IsStored, StoredView, fragment_of}
 
 -- the numbers of a table's fragments
 abbrev pub fragment_numbers : StoredView → ℕ → List ℕ

@@ -94,6 +94,13 @@ pub record AreReadRows (meant : Result (List (List Value)) LoadFault) (cut : Cut
   pub table : IsNotedTable after cut t rows
   pub texts : after ≡ fold noted before (flat_map texts_of_row rows)
 
+-- a row that was read into a table, behind the others, and its texts noted
+pub record TakesRow (meant : Result (List Value) LoadFault) (cut : CutView) (before after : List (List ℕ)) (old new : StoredTable) : Type 0 where
+  pub row : List Value
+  pub said : meant ≡ Ok row
+  pub texts : after ≡ fold noted before (texts_of_row row)
+  pub table : (rows : List (List Value)) → IsNotedTable before cut old rows → IsNotedTable after cut new (rows ++ row ∷ [])
+
 -- this table stands there, its texts as their notes' numbers
 pub record IsNotedView (notes : List (List ℕ)) (cut : CutView) (t : StoredTable) (u : TableView) : Type 0 where
   pub shape : shape_of t.shape ≡ u.shape

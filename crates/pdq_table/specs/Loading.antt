@@ -1,12 +1,12 @@
 -- Tables from CSV files: the tables of a schema, or the first fault.
-use Rattle.std.specs.Prelude.{◌≡◌, ◌⊎◌, ℕ, ◌+◌, ◌*◌, List, [], ◌∷◌, nat_lt, if◌then◌else◌, ◌==◌, ℤ, Option, None, Some, Result, Ok, Err, codes, length, map, Bool, ◌||◌}
+use Rattle.std.specs.Prelude.{ℕ, ◌+◌, ◌*◌, List, [], ◌∷◌, nat_lt, if◌then◌else◌, ◌==◌, ℤ, Option, None, Some, Result, Ok, Err, codes, length, map, Bool, ◌||◌}
 use Rattle.std.specs.Char.{to_ascii_lowercase}
 use Rattle.std.specs.Global.{Vec}
 use Rattle.std.specs.Str.{bytes_eq}
 use Rattle.csv.specs.Reading.{default_config, records, strip_bom}
 use Rattle.pdq_dict.specs.Dictionary.{cell_limit}
 use Rattle.pdq_value.specs.declared.loading.LoadFault.{LoadFault}
-use Rattle.pdq_value.specs.declared.loading.LoadFault.TheVariants.{Memory, Wrong}
+use Rattle.pdq_value.specs.declared.loading.LoadFault.TheVariants.{Wrong}
 use Rattle.pdq_value.specs.declared.loading.LoadWhy.TheVariants.{TooLong, TooManyRows, TooManyCells, NotUtf8, WrongFields, WrongHeader, BadNumber}
 use Rattle.pdq_value.specs.declared.numbers.NumberFault.{NumberFault}
 use Rattle.pdq_value.specs.declared.shapes.Column.{Column}
@@ -138,7 +138,3 @@ tables_loaded shapes files = tables_unless shapes files (too_long_at 1 files)
 
 abbrev pub contents_of : List (Vec ℕ) → List (List ℕ)
 contents_of files = map (λ (v : Vec ℕ). v.items) files
-
--- an answer for want of memory, or the fault of this definition
-abbrev pub Refuses : {X : Type 0} → Result X LoadFault → LoadFault → Type 0
-Refuses meant e = (e ≡ Memory) ⊎ (meant ≡ Err e)

@@ -1,9 +1,11 @@
 -- The words of rows while files are read: a text stands as the number of its note, above all numbers of tables.
-use Rattle.std.specs.Prelude.{⊤, ◌≡◌, ℕ, ◌+◌, ◌-◌, ◌^◌, ◌<◌, List, if◌then◌else◌, ℤ, pos, nat_abs, int_lt, map, Some, unwrap_or, slice_index}
+use Rattle.std.specs.Prelude.{⊤, ◌≡◌, ℕ, ◌+◌, ◌-◌, ◌^◌, ◌<◌, List, All, Result, Ok, if◌then◌else◌, ℤ, pos, nat_abs, int_lt, fold, map, Some, unwrap_or, slice_index}
+use Rattle.pdq_value.specs.declared.loading.LoadFault.{LoadFault}
 use Rattle.pdq_value.specs.declared.shapes.Value.{Value}
 use Rattle.pdq_value.specs.declared.shapes.Value.TheVariants.{Null, Number, Words}
 use Rattle.pdq_base.specs.Words.{null_word}
-use Rattle.pdq_dict.specs.Texts.{number_of}
+use Rattle.pdq_dict.specs.Dictionary.{texts_of_row, texts_of_value}
+use Rattle.pdq_dict.specs.Texts.{noted, number_of}
 
 -- above each number of a table
 abbrev pub note_base : ℕ
@@ -33,3 +35,19 @@ abbrev pub IsSmall : Value → Type 0
 IsSmall Null = ⊤
 IsSmall (Number z) = nat_abs z < 10 ^ 18
 IsSmall (Words t) = ⊤
+
+-- a field was read: its value has this word, and its text, if it is one, was noted
+pub record IsReadField (meant : Result Value LoadFault) (before after : List (List ℕ)) (word : ℤ) : Type 0 where
+  pub value : Value
+  pub said : meant ≡ Ok value
+  pub texts : after ≡ fold noted before (texts_of_value value)
+  pub is : word ≡ noted_word after value
+  pub each : IsNoted after value
+
+-- a record was read: its row has these words, and its texts were noted
+pub record IsReadRecord (meant : Result (List Value) LoadFault) (before after : List (List ℕ)) (words : List ℤ) : Type 0 where
+  pub row : List Value
+  pub said : meant ≡ Ok row
+  pub texts : after ≡ fold noted before (texts_of_row row)
+  pub are : words ≡ noted_row after row
+  pub each : All (IsNoted after) row

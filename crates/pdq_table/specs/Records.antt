@@ -5,7 +5,10 @@ use Rattle.csv.specs.Reading.{Ready, default_config, records_from, source_of}
 use Rattle.csv.specs.declared.parser.State.{State}
 use Rattle.csv.specs.declared.reader.Reader.{Reader}
 use Rattle.csv.specs.declared.reader.Trim.TheVariants as trim
-use Rattle.pdq_table.specs.Loading.{most_bytes}
+use Rattle.pdq_dict.specs.Dictionary.{cell_limit}
+use Rattle.pdq_value.specs.declared.shapes.Column.{Column}
+use Rattle.pdq_value.specs.PlainTable.{most_rows, not_utf8_at}
+use Rattle.pdq_table.specs.Loading.{Place, most_bytes, row_of, values_of}
 
 abbrev pub FileReader : Type 0
 FileReader = Reader (Bor (List ℕ))
@@ -49,3 +52,11 @@ pub record TakesOne (old : FileReader) (fields : List (List ℕ)) (new : FileRea
 abbrev pub Takes : Bool → FileReader → List (List ℕ) → FileReader → Type 0
 Takes true old fields new = TakesOne old fields new
 Takes false old fields new = records_left old ≡ []
+
+-- a record of texts, one for each column, within the limits: its row is what its fields say
+pub record IsWhole (columns : List Column) (p : Place) (cells : ℕ) (fields : List (List ℕ)) : Type 0 where
+  pub said : row_of columns p cells fields ≡ values_of columns p 1 fields
+  pub utf8 : not_utf8_at 1 fields ≡ None
+  pub count : length fields ≡ length columns
+  pub rows : p.row ≤ most_rows
+  pub room : cells + length columns ≤ cell_limit

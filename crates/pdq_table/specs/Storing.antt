@@ -1,12 +1,12 @@
 -- Stored tables: those of a schema, within the limits, in fragments.
-use Rattle.std.specs.Prelude.{◌≡◌, ℕ, ◌<◌, ◌≤◌, List, [], All, IfSome, length, map, slice_index_or}
+use Rattle.std.specs.Prelude.{◌≡◌, ℕ, ◌<◌, ◌≤◌, List, All, IfSome, length, map, slice_index_or}
 use Rattle.std.specs.List.{slice_get}
 use Rattle.pdq_dict.specs.Dictionary.{cell_limit, cells_in}
 use Rattle.pdq_schema.specs.Fragments.{fragment_count, fragment_rows}
 use Rattle.pdq_schema.specs.Schemas.{IsSchema, SchemaView, rounds}
 use Rattle.pdq_value.specs.declared.shapes.Value.{Value}
 use Rattle.pdq_value.specs.PlainTable.{most_rows}
-use Rattle.pdq_value.specs.Tables.{IsDatabase, ShapeView, TableView}
+use Rattle.pdq_value.specs.Tables.{IsDatabase, ShapeView, TableView, no_table}
 
 -- the tables of a schema, each with its rows in the order of the file
 pub record StoredView : Type 0 where
@@ -27,9 +27,6 @@ pub record AreTablesOf (shapes : List ShapeView) (tables : List TableView) : Typ
 pub record IsStored (s : StoredView) : Type 0 where
   pub schema : IsSchema s.schema
   pub tables : AreTablesOf s.schema.shapes s.tables
-
-abbrev pub no_table : TableView
-no_table = record { shape = record { name = []; columns = [] }; rows = [] }
 
 -- how many rows a table has
 abbrev pub rows_of : StoredView → ℕ → ℕ

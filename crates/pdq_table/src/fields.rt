@@ -1,24 +1,23 @@
 //! The values that the fields of a record say.
-ghost use Rattle.std.specs.Prelude.{◌≡◌, ◌+◌, ◌∷◌, ◌≤◌, [], All, IfErr, IfOk, MatchOption, None, Ok, drop, length, true};
+ghost use Rattle.std.specs.Prelude.{◌≡◌, ◌+◌, ◌∷◌, ◌≤◌, [], IfErr, IfOk, IsTrue, MatchOption, None, Ok, drop, length, true};
 ghost use Rattle.std.specs.Str.{is_utf8};
 ghost use Rattle.csv.specs.Records.{fields_of};
-ghost use Rattle.pdq_dict.specs.Dictionary.{cell_limit};
 ghost use Rattle.pdq_value.specs.declared.shapes.Column.{Column};
-ghost use Rattle.pdq_value.specs.PlainTable.{most_rows, not_utf8_at};
+ghost use Rattle.pdq_value.specs.PlainTable.{not_utf8_at, Refuses};
 ghost use Rattle.pdq_value.specs.Tables.{IsKind};
-ghost use Rattle.pdq_table.specs.Loading.{Refuses, fields_fault, is_null_field, most_bytes, row_of, value_of, value_said, values_of};
+ghost use Rattle.pdq_table.specs.Loading.{fields_fault, is_null_field, most_bytes, value_of, value_said};
 ghost use Rattle.pdq_table.specs.Records.{AreShort};
 
 use csv::ByteRecord;
 use pdq_base::{is_text, is_utf8};
-use pdq_value::{Column, Kind, LoadFault, LoadWhy, Row, Text, Value, read_number};
+use pdq_value::{Column, Kind, LoadFault, LoadWhy, Text, Value, read_number};
 use std::alloc::Global;
 
 /// The most rows of a table.
 pub(crate) const MOST_ROWS: u32 = 2_000_000;
 
 /// The most cells of all tables.
-const MOST_CELLS: u64 = 32_000_000;
+pub(crate) const MOST_CELLS: u64 = 32_000_000;
 
 /// A fault of this table, in this row and column.
 pub(crate) fn fault(why: LoadWhy, table: u32, row_no: u32, column: u32) -> LoadFault
@@ -41,11 +40,21 @@ pub(crate) fn field_at(row: &ByteRecord, place: usize) -> Option<&[u8]>
     row.get(place)
 }
 
+/// Whether a record has only ASCII bytes, which are UTF-8 in each of its fields.
+fn is_ascii_record(row: &ByteRecord) -> bool
+    ensures utf8 { IsTrue result → not_utf8_at 1 (fields_of row.now) ≡ None }
+{
+    row.as_slice().is_ascii()
+}
+
 /// The first column whose field is not UTF-8.
 fn first_not_utf8(row: &ByteRecord) -> Option<u32>
     requires short { AreShort (fields_of row.now) }
     ensures value { result ≡ not_utf8_at 1 (fields_of row.now) }
 {
+    if is_ascii_record(row) {
+        return None;
+    }
     for place in 0..row.len() {
         let Some(field) = field_at(row, place) else {
             return None;
@@ -78,7 +87,7 @@ pub(crate) fn fields_fault(
 }
 
 /// Whether a field says Null: `\N` does in every column, and no byte at all in a column of numbers.
-fn is_null_field(kind: Kind, field: &[u8]) -> bool
+pub(crate) fn is_null_field(kind: Kind, field: &[u8]) -> bool
     ensures value { result ≡ is_null_field kind field.now }
 {
     match kind {
@@ -115,7 +124,7 @@ fn value_said(
 }
 
 /// The value of a field in a column of this kind.
-fn read_value(
+pub(crate) fn read_value(
     alloc: Global,
     kind: Kind,
     table: u32,
@@ -133,63 +142,4 @@ fn read_value(
         return Ok(Value::Null);
     }
     value_said(alloc, kind, table, row_no, column, field)
-}
-
-/// The values of a record, column by column.
-fn read_values(
-    alloc: Global,
-    columns: &[Column],
-    table: u32,
-    row_no: u32,
-    row: &ByteRecord,
-) -> Result<Vec<Value>, LoadFault>
-    requires kinds { All (λ (c : Column). IsKind c.kind) columns.now }
-    requires short { AreShort (fields_of row.now) }
-    requires utf8 { not_utf8_at 1 (fields_of row.now) ≡ None }
-    ensures read { IfOk result (λ v. values_of columns.now (record { table = table; row = row_no }) 1 (fields_of row.now) ≡ Ok v.items) }
-    ensures refused { IfErr result (Refuses (values_of columns.now (record { table = table; row = row_no }) 1 (fields_of row.now))) }
-{
-    let Ok(mut values) = Vec::with_capacity(alloc, columns.len()) else {
-        return Err(LoadFault::Memory);
-    };
-    for (place, column) in columns.iter().enumerate() {
-        let Some(field) = field_at(row, place) else {
-            return Ok(values);
-        };
-        let value = read_value(alloc, column.kind, table, row_no, place as u32 + 1, field)?;
-        let Ok(()) = values.push(value) else {
-            return Err(LoadFault::Memory);
-        };
-    }
-    Ok(values)
-}
-
-/// The row that a record says, where all tables have so many cells before it.
-#[tactic(auto, using(crate::proofs::RowKinds::utf8_where_no_fault), unfolding(crate::specs::Loading::row_of))]
-pub(crate) fn read_row(
-    alloc: Global,
-    columns: &[Column],
-    table: u32,
-    row_no: u32,
-    cells: u64,
-    row: &ByteRecord,
-) -> Result<Row, LoadFault>
-    requires kinds { All (λ (c : Column). IsKind c.kind) columns.now }
-    requires few { length columns.now ≤ 16 }
-    requires cells { cells ≤ cell_limit }
-    requires short { AreShort (fields_of row.now) }
-    ensures read { IfOk result (λ r. row_of columns.now (record { table = table; row = row_no }) cells (fields_of row.now) ≡ Ok r) }
-    ensures refused { IfErr result (Refuses (row_of columns.now (record { table = table; row = row_no }) cells (fields_of row.now))) }
-    ensures room { IfOk result (λ r. (row_no ≤ most_rows) × (cells + length columns.now ≤ cell_limit)) }
-{
-    if row_no > MOST_ROWS {
-        return Err(fault(LoadWhy::TooManyRows, table, row_no, 0));
-    }
-    if cells + columns.len() as u64 > MOST_CELLS {
-        return Err(fault(LoadWhy::TooManyCells, table, row_no, 0));
-    }
-    if let Some(wrong) = fields_fault(columns, table, row_no, row) {
-        return Err(wrong);
-    }
-    Ok(Row::new(read_values(alloc, columns, table, row_no, row)?))
 }

@@ -7,6 +7,7 @@ mod headers;
 mod laws;
 mod loading;
 mod noted_words;
+mod noting;
 mod records;
 mod rows;
 mod stored_table;

@@ -10,7 +10,7 @@ use pdq_value::Value;
 use std::alloc::Global;
 
 /// Above each number of a table, which is below 10^18 in magnitude.
-const NOTE_BASE: i64 = 1_000_000_000_000_000_000;
+pub(crate) const NOTE_BASE: i64 = 1_000_000_000_000_000_000;
 
 /// The word of a value, whose text is noted.
 fn noted_word(alloc: Global, notes: &mut Notes, value: &Value) -> Result<i64, Memory>

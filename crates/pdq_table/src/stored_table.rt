@@ -108,7 +108,7 @@ impl StoredTable {
     }
 
     /// Puts a row behind the others of a fragment.
-    fn push(&mut self, number: u32, words: &[i64]) -> Result<(), Memory>
+    pub fn push(&mut self, number: u32, words: &[i64]) -> Result<(), Memory>
         requires fragment { number < length self.old.fragments.items }
         requires few { length (words_at self.old.fragments.items number).rows < most_rows }
         requires width { (words_at self.old.fragments.items number).width ≡ length words.now }

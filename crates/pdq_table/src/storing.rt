@@ -153,6 +153,7 @@ impl Stored {
     /// The dictionary of its texts.
     pub fn dict(&self) -> &Dict
         ensures value { result.now ≡ dictionary_of self.now.tables }
+        ensures stored { IsStored self.now }
     {
         &self.dict
     }

@@ -16,11 +16,14 @@ fn loaded(alloc: Global, text: &[u8]) -> Result<Db, LoadFault> {
     let Ok(file) = Vec::from_slice(alloc, text) else {
         return Err(LoadFault::Memory);
     };
-    let files = [file];
+    let mut files = Vec::new(alloc);
+    let Ok(()) = files.push(file) else {
+        return Err(LoadFault::Memory);
+    };
     if schema.shapes().len() != files.len() {
         return Err(LoadFault::Memory);
     }
-    let stored = load(alloc, &schema, &files)?;
+    let stored = load(alloc, &schema, files)?;
     let Ok(db) = stored.to_db(alloc) else {
         return Err(LoadFault::Memory);
     };

@@ -4,6 +4,6 @@ use Rattle.pdq_dict.proofs.text_sets.places_of.Given as goal
 
 abbrev pub invariant-loop-place : goal.invariant-loop-place
 invariant-loop-place l = record {
-  count : length l.places.items ≡ length l.texts.entries;
-  codes : AreCodesBelow l.place l.texts.entries l.places.items;
+  count : length l.places.items ≡ length l.marks;
+  codes : AreCodesBelow l.place l.marks l.places.items;
 }

@@ -1,10 +1,17 @@
-use Rattle.std.proofs.Common.{◌≡◌, ◌∙◌, ap, sym, Some, slice_get}
-use Rattle.std.specs.Vec.{vec_items}
-use Rattle.pdq_dict.proofs.Keys.{text_at}
+use Rattle.std.proofs.Common.{◌≡◌, ◌<◌, ◌∙◌, ap, arith, length, map, sym, Some, slice_get}
+use Rattle.std.specs.Option.{option_map}
+use Rattle.std.proofs.lemmas.List.{length-map}
+use Rattle.std.proofs.lemmas.Option.{slice_get-get_or, slice_get-map}
+use Rattle.pdq_dict.specs.Texts.{text_at_entry, text_of_mark}
 use Rattle.pdq_dict.proofs.text_sets.TextSet.text.Goals as goal
 
-pub returns-in-Some : goal.returns-in-Some
-returns-in-Some c =
-    let entry : slice_get c.self.inside.texts.entries c.args.place ≡ Some (c.in-Some.text.now, c.in-Some.field-0-1.now) = sym c.in-Some.ensures.entry in
-    let same : vec_items c.in-Some.text.now ≡ c.deref.result.now = sym c.deref.ensures.value in
-    record { text = ap (λ l. slice_get l c.args.place) (sym c.self.view_is) ∙ text_at c.self.inside.texts.entries c.args.place _ entry ∙ ap Some same }
+pub returns : goal.returns
+returns c =
+    let f = text_of_mark (map text_at_entry c.self.inside.texts.entries) in
+    let order = c.self.inside.order.items in
+    let place = c.args.place in
+    let less : place < length order = omega (arith, c.requires.there, ap length c.self.view_is, length-map order f) in
+    let at : slice_get order place ≡ Some c.index.result.now = slice_get-get_or order place c.index.result.now less ∙ ap Some (sym c.index.ensures) in
+    record {
+      text = ap (λ l. slice_get l place) (sym c.self.view_is) ∙ slice_get-map f order place ∙ ap (option_map f) at ∙ ap Some (sym c.text_numbered.ensures.text);
+    }
