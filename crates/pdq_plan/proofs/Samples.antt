@@ -1,5 +1,5 @@
 -- A query of two tables that fits.
-use Rattle.std.proofs.Common.{◌≡◌, ◌≢◌, ℕ, zero, suc, ◌<◌, ◌≤◌, List, [], ◌∷◌, All, AllPairs, Contains, length, refl, sym, subst, arith, true≢false, pos, lit<}
+use Rattle.std.proofs.Common.{◌≡◌, ◌≢◌, ℕ, zero, suc, ◌<◌, List, [], ◌∷◌, Contains, length, refl, sym, arith, true≢false, pos, lit<}
 use Rattle.std.proofs.lemmas.List.Elements.{All-cons, All-nil}
 use Rattle.std.proofs.lemmas.List.Kept.{AllPairs-cons}
 use Rattle.pdq_value.specs.declared.shapes.Column.{Column}
@@ -8,12 +8,10 @@ use Rattle.pdq_value.specs.declared.shapes.Value.TheVariants as value
 use Rattle.pdq_value.specs.Tables.{ShapeView}
 use Rattle.pdq_query.specs.declared.query.At.{At}
 use Rattle.pdq_query.specs.declared.query.Compare.TheVariants.{Lt}
-use Rattle.pdq_query.specs.declared.query.Filter.{Filter}
 use Rattle.pdq_query.specs.declared.query.Filter.TheVariants.{Literal}
-use Rattle.pdq_query.specs.declared.query.Item.{Item}
 use Rattle.pdq_query.specs.declared.query.Item.TheVariants.{Plain, Count}
 use Rattle.pdq_query.specs.declared.query.Key.{Key}
-use Rattle.pdq_query.specs.Fits.{FilterFits, Fits, IsColumn, IsTied, ItemFits, JoinFits, first, forward, backward}
+use Rattle.pdq_query.specs.Fits.{FilterFits, Fits, IsColumn, IsTied, ItemFits, JoinFits, first, forward}
 use Rattle.pdq_query.specs.Queries.{QueryView}
 
 abbrev pub name : Column

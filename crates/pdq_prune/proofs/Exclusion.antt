@@ -1,8 +1,7 @@
 -- No fragment is excluded in which a value stands for which the comparison holds.
-use Rattle.std.proofs.Common.{◌≡◌, ℕ, zero, suc, ◌+◌, ◌<◌, ◌≤◌, List, [], ◌∷◌, Bool, true, false, not, ◌&&◌, ◌==◌, cond, length, refl, sym, ap, ap₂, ◌∙◌, subst, arith, true≢false, is_lt, is_gt, Option, Some, None}
+use Rattle.std.proofs.Common.{◌≡◌, ℕ, suc, ◌+◌, List, [], ◌∷◌, Bool, true, false, not, ◌&&◌, ◌==◌, cond, length, refl, sym, ap, ◌∙◌, subst, arith, true≢false, is_gt, Option, Some, None}
 use Rattle.std.specs.Prelude.{nat_lt, option_and_then, position, slice_get, unwrap_or}
 use Rattle.std.specs.List.{position_or_len}
-use Rattle.std.specs.Ordering.{is_eq}
 use Rattle.std.proofs.lemmas.Bool.Decides.{nat_tests}
 use Rattle.std.proofs.lemmas.Cmp.{nat_eq_equiv}
 use Rattle.std.proofs.lemmas.List.Sums.{prefix_len-le-length}
@@ -11,8 +10,7 @@ use Rattle.pdq_schema.specs.declared.cuts.Range.{Range}
 use Rattle.pdq_schema.specs.Fragments.{holds_value, is_below, is_from, is_there, range_number, value_cmp}
 use Rattle.pdq_query.specs.declared.query.Compare.{Compare}
 use Rattle.pdq_query.specs.declared.query.Compare.TheVariants.{Eq, Ne, Lt, Le, Gt, Ge}
-use Rattle.pdq_query.specs.Conditions.{holds}
-use Rattle.pdq_prune.specs.Elimination.{below_of, excludes, from_of, side_compares}
+use Rattle.pdq_prune.specs.Elimination.{excludes, side_compares}
 use Rattle.pdq_prune.proofs.ValueOrder.{Compares, greater-less, is_less, not_less, one_way, value_cmp-same}
 
 not_true : (b : Bool) → not b ≡ true → b ≡ false

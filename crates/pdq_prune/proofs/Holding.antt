@@ -1,5 +1,5 @@
 -- Each row that meets the filters on its table stands in a fragment that is left.
-use Rattle.std.proofs.Common.{◌≡◌, ℕ, zero, suc, ◌+◌, ◌<◌, ◌≤◌, ◌==◌, List, [], ◌∷◌, Bool, true, false, not, ◌&&◌, ◌||◌, cond, length, get_or, filter, map, refl, sym, ap, ap₂, ◌∙◌, subst, arith, All, Contains, true≢false, eqb-true, Option, Some, None}
+use Rattle.std.proofs.Common.{◌≡◌, ℕ, zero, suc, ◌<◌, ◌==◌, List, [], ◌∷◌, Bool, true, false, not, ◌&&◌, ◌||◌, cond, length, filter, refl, sym, ap, ap₂, ◌∙◌, subst, arith, All, Contains, true≢false, eqb-true, Option, Some}
 use Rattle.std.specs.Prelude.{option_and_then, option_map, slice_get, slice_index_or}
 use Rattle.std.specs.List.{enumerate_from, list_all, list_any, range_with_len}
 use Rattle.std.proofs.lemmas.Option.{same_Some, slice_get-get_or, slice_get-map}
@@ -11,7 +11,7 @@ use Rattle.pdq_value.specs.declared.shapes.Column.{Column}
 use Rattle.pdq_value.specs.declared.shapes.Kind.{Kind}
 use Rattle.pdq_value.specs.declared.shapes.Value.{Value}
 use Rattle.pdq_value.specs.Cells.{cell_at, cell_of}
-use Rattle.pdq_value.specs.Tables.{IsRowOf, IsTable, IsValueOf, ShapeView, TableView, cells_of}
+use Rattle.pdq_value.specs.Tables.{IsRowOf, IsValueOf, ShapeView, TableView, cells_of, no_table}
 use Rattle.pdq_schema.specs.Fragments.{fragment_count, fragment_number, range_number, stands_in, value_at}
 use Rattle.pdq_schema.specs.Schemas.{AreCutsOf, CutView, IsCutOf, ranges, rounds}
 use Rattle.pdq_schema.proofs.FragmentLaws.{number-within}
@@ -20,12 +20,11 @@ use Rattle.pdq_query.specs.declared.query.Compare.{Compare}
 use Rattle.pdq_query.specs.declared.query.Filter.{Filter}
 use Rattle.pdq_query.specs.declared.query.Filter.TheVariants.{Literal, Columns}
 use Rattle.pdq_query.specs.Conditions.{Choice, compares, passes}
-use Rattle.pdq_query.specs.Fits.{FilterFits, Fits, HasKind, column_at}
+use Rattle.pdq_query.specs.Fits.{FilterFits, column_at}
 use Rattle.pdq_query.specs.Plans.{Filtered, reads}
-use Rattle.pdq_query.specs.Queries.{QueryView}
-use Rattle.pdq_table.specs.Storing.{IsStored, StoredView, no_table, shapes_of}
+use Rattle.pdq_table.specs.Storing.{shapes_of}
 use Rattle.pdq_prune.specs.Elimination.{cut_at, excludes, filter_excludes, fragments_left, left_of}
-use Rattle.pdq_prune.specs.Laws.{LeftFragmentsHoldTheRows, MeetsFilters, table_at}
+use Rattle.pdq_prune.specs.Laws.{LeftFragmentsHoldTheRows, table_at}
 use Rattle.pdq_prune.proofs.Exclusion.{not_excluded}
 use Rattle.pdq_prune.proofs.Leaving.{fragments_left-at, number_there, passes_kept}
 use Rattle.pdq_prune.proofs.ValueOrder.{Compares, compares-values}

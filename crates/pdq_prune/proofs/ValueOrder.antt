@@ -1,5 +1,5 @@
 -- The order of values, and what a comparison of a cell with a literal says of it.
-use Rattle.std.proofs.Common.{◌≡◌, ℕ, List, [], Bool, true, false, not, ◌&&◌, refl, sym, ap, ap₂, ◌∙◌, subst, true≢false, is_lt, is_gt, ℤ, nat_cmp, int_cmp}
+use Rattle.std.proofs.Common.{◌≡◌, ℕ, List, Bool, true, false, refl, sym, ap, ◌∙◌, true≢false, is_lt, is_gt, ℤ, nat_cmp, int_cmp}
 use Rattle.std.specs.Cmp.{IsStrictWeakOrder}
 use Rattle.std.specs.Cmp.Lexicographic.{slice_cmp}
 use Rattle.std.specs.Ordering.{is_eq, ordering_reverse, ordering_then}

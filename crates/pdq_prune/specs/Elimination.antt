@@ -1,5 +1,5 @@
 -- Fragment elimination: which fragments of a table can hold a row that meets the filters on it.
-use Rattle.std.specs.Prelude.{◌≡◌, ℕ, ◌<◌, List, [], ◌∷◌, All, Bool, true, false, not, ◌&&◌, ◌==◌, Option, Some, None, filter, length, map, max, option_and_then, slice_get, slice_index_or}
+use Rattle.std.specs.Prelude.{◌≡◌, ℕ, ◌<◌, List, [], ◌∷◌, All, Bool, false, not, ◌&&◌, ◌==◌, Option, Some, None, filter, length, map, max, option_and_then, slice_get, slice_index_or}
 use Rattle.std.specs.List.{list_any, range_with_len}
 use Rattle.std.specs.List.Sorted.{IsStrictlyIncreasing}
 use Rattle.pdq_value.specs.declared.shapes.Value.{Value}

@@ -2,13 +2,13 @@
 use Rattle.std.specs.Prelude.{◌≡◌, ℕ, ◌<◌, List, [], true, Contains, filter, length, slice_index_or}
 use Rattle.std.specs.List.{enumerate_from, list_all}
 use Rattle.pdq_value.specs.declared.shapes.Value.{Value}
-use Rattle.pdq_value.specs.Tables.{TableView, cells_of}
+use Rattle.pdq_value.specs.Tables.{TableView, cells_of, no_table}
 use Rattle.pdq_schema.specs.Fragments.{StandsIn}
 use Rattle.pdq_query.specs.Conditions.{Choice, passes}
 use Rattle.pdq_query.specs.Fits.{Fits}
 use Rattle.pdq_query.specs.Plans.{Filtered, reads}
 use Rattle.pdq_query.specs.Queries.{QueryView}
-use Rattle.pdq_table.specs.Storing.{IsStored, StoredView, no_table}
+use Rattle.pdq_table.specs.Storing.{IsStored, StoredView}
 use Rattle.pdq_prune.specs.Elimination.{cut_at, fragments_left}
 
 -- the table at a place in FROM
