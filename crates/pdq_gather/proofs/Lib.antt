@@ -1,0 +1,10 @@
+pub mod Answering
+pub mod Lists
+pub mod Dividing
+pub mod Coming
+pub mod Moved
+pub mod Ends
+pub mod Backs
+pub mod Grouped
+pub mod Keeping
+pub mod Made

@@ -1,0 +1,13 @@
+use Rattle.std.proofs.Common.{◌≡◌, ◌+◌, ◌≤◌, ◌++◌, map}
+use Rattle.std.specs.Prelude.{vec_len, vec_capacity}
+use Rattle.pdq_gather.specs.Homes.{back_of, bench_back, store_of}
+use Rattle.pdq_gather.proofs.benches.leave_first.Given as goal
+
+abbrev pub invariant-leaving : goal.invariant-leaving
+invariant-leaving g l = let s = g.Sp.Spill in record {
+  home : map back_of l.groupers.items ++ map (bench_back (store_of s.blocks s.held s.puts s.faults)) l.benches.items ≡ map back_of l.fn.groupers.items ++ map (bench_back (store_of s.blocks s.held s.puts s.faults)) l.fn.benches.items;
+  room : vec_len l.benches + vec_len l.groupers ≤ vec_capacity l.benches;
+}
+
+abbrev pub decreases-leaving : goal.decreases-leaving
+decreases-leaving g l = vec_len l.groupers

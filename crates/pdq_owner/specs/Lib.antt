@@ -1,0 +1,12 @@
+pub mod FaultLaws
+pub mod Spools
+pub mod SpoolLaws
+pub mod Keepers
+pub mod KeeperLaws
+pub mod Collectors
+pub mod CollectorLaws
+pub mod Phases
+pub mod Owning
+pub mod OwnerLaws
+pub mod Folders
+pub mod FolderLaws

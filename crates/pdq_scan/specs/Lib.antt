@@ -1,0 +1,9 @@
+pub mod WordTests
+pub mod Scans
+pub mod Lanes
+pub mod ScanLaws
+pub mod Pickers
+pub mod StoreFaults
+pub mod Readers
+pub mod ReaderLaws
+pub mod PartitionLanes
