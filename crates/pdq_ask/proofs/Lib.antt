@@ -1,0 +1,2 @@
+pub mod NotStopped
+pub mod PlainTables

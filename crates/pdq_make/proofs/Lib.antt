@@ -1,0 +1,5 @@
+pub mod Generated
+pub mod Lines
+pub mod MadeRows
+pub mod MadeStates
+pub mod Shapes

@@ -1,0 +1,2 @@
+pub mod MadeTables
+pub mod Make

@@ -1,0 +1,5 @@
+pub mod Limits
+pub mod Reading
+pub mod Replies
+pub mod Changes
+pub mod Answers
