@@ -18,15 +18,16 @@ use Rattle.pdq_query.specs.Queries.{QueryView}
 use Rattle.pdq_sql.specs.declared.faults.SqlFault.{SqlFault}
 use Rattle.pdq_sql.specs.Commands.{CommandView}
 use Rattle.pdq_sql.specs.Commands as command
-use Rattle.pdq_session.specs.declared.replies.LineFault.{LineFault}
-use Rattle.pdq_session.specs.declared.replies.Refusal.{Refusal}
-use Rattle.pdq_session.specs.declared.replies.Refusal.TheVariants as refusal
-use Rattle.pdq_session.specs.Commands.{Said, is_claim, letter_setting, level_priority, line_of}
-use Rattle.pdq_session.specs.Replies.{chosen_text, closed_text, done_text, failed_text, priority_text}
+use Rattle.pdq_reply.specs.declared.replies.LineFault.{LineFault}
+use Rattle.pdq_reply.specs.declared.replies.Refusal.{Refusal}
+use Rattle.pdq_reply.specs.declared.replies.Refusal.TheVariants as refusal
+use Rattle.pdq_session.specs.Commands.{Said, is_claim, line_of}
+use Rattle.pdq_reply.specs.Changes.{letter_setting, level_priority}
+use Rattle.pdq_reply.specs.Replies.{chosen_text, closed_text, done_text, failed_text, priority_text}
 use Rattle.pdq_session.specs.ScriptStates.{ScriptState, after_event, priority_of, text_of, with_current, with_priority}
-use Rattle.pdq_session.specs.ScriptSteps.{Outcome, Stepped, claim_step, close_refusal, collect_step, end_step, finished_with, not_run, opened_by, outcome_of, own_refusal, query_step, ran_step, refused_step, set_step, submit_step, unless_refused, use_step, with_text}
+use Rattle.pdq_session.specs.ScriptSteps.{Outcome, Stepped, claim_step, close_refusal, collect_step, end_step, finished_with, not_run, opened_by, outcome_of, own_refusal, query_step, ran_step, refused_step, run_step, set_step, submit_step, unless_refused, use_step, with_text}
 use Rattle.pdq_session.specs.ScriptTranscript.{Failures, Out, after, command_step, fails_later, fails_now, fault_at, fault_of, fault_of_command, fault_of_query, query_asked, run_lines, script_step, unless_fault}
-use Rattle.pdq_session.specs.Progress.{Begins}
+use Rattle.pdq_session.specs.ScriptLines.{Begins, IsGivenUp, MadeFirst}
 
 pub begins_same : {X : Type 0} (xs : List X) → Begins xs xs
 begins_same xs = record { tail = []; part = sym (append-nil xs) }
@@ -73,14 +74,14 @@ grown_opened s admin (Refuses reason) = begins_same s.history
 grown_use : (s : ScriptState) (session : ℕ) → Begins (use_step s session).state.history s.history
 grown_use s session = elim (is_open s.manager session) as (λ b. Begins (if b then record { text = chosen_text session; state = record s { sessions = with_current s.sessions session } } else refused_step s refusal.NoSession).state.history s.history) [ true ↦ begins_same s.history | false ↦ begins_same s.history ]
 
-grown_end : (s before : ScriptState) (id : ℕ) (outcome : Outcome) → Begins s.history before.history → Begins (end_step s id outcome).state.history before.history
+pub grown_end : (s before : ScriptState) (id : ℕ) (outcome : Outcome) → Begins s.history before.history → Begins (end_step s id outcome).state.history before.history
 grown_end s before id outcome grown = go outcome.failed
   where
     go : (b : Bool) → Begins (if b then finished_with (λ step. outcome.text ++ failed_text id step) s id Failed else finished_with (λ step. outcome.text ++ done_text id step) s id Done).state.history before.history
     go true = begins_then before.history s.history (after_event s s.sessions.current (Finish id Failed)).history grown (grown_event s s.sessions.current (Finish id Failed))
     go false = begins_then before.history s.history (after_event s s.sessions.current (Finish id Done)).history grown (grown_event s s.sessions.current (Finish id Done))
 
-grown_collect : (s : ScriptState) (id : ℕ) (outcome : Outcome) (answer : Answer) → Begins (collect_step s id outcome answer).state.history s.history
+pub grown_collect : (s : ScriptState) (id : ℕ) (outcome : Outcome) (answer : Answer) → Begins (collect_step s id outcome answer).state.history s.history
 grown_collect s id outcome (Entered (reply.Granted quanta scans priority None)) = grown_end (after_event s s.sessions.current (Collect id)) s id outcome (grown_event s s.sessions.current (Collect id))
 grown_collect s id outcome (Entered (reply.Granted quanta scans priority (Some by))) = grown_twice s s.sessions.current (Collect id) (Finish id Stopped)
 grown_collect s id outcome (Entered (reply.Cancelled by)) = grown_event s s.sessions.current (Collect id)
@@ -95,7 +96,7 @@ grown_text s q (Entered r) step grown = grown
 grown_text s q (Waits gate) step grown = grown
 grown_text s q (Refuses reason) step grown = grown
 
-grown_query : (s : ScriptState) (r : Result QueryView SqlFault) → Begins (query_step s r).state.history s.history
+pub grown_query : (s : ScriptState) (r : Result QueryView SqlFault) → Begins (query_step s r).state.history s.history
 grown_query s (Err e) = begins_same s.history
 grown_query s (Ok q) =
     let event : Event = Submit (priority_of s.sessions s.sessions.current) (s.asked.widest q) in
@@ -129,28 +130,28 @@ refused_query : (s : ScriptState) (r : Result QueryView SqlFault) (reason : Line
 refused_query s (Ok q) reason is = absurd (none-some reason is)
 refused_query s (Err e) reason is = refl
 
-refused_command : (s : ScriptState) (c : CommandView) (reason : LineFault) → fault_of_command s.asked c ≡ Some reason → (command_step s false c).state ≡ s
+refused_command : (s : ScriptState) (failed : Bool) (c : CommandView) (reason : LineFault) → fault_of_command s.asked c ≡ Some reason → (command_step s failed c).state ≡ s
 unfolding command_step
-refused_command s (command.Query ast) reason is = refused_query s (query_asked s.asked ast) reason is
-refused_command s (command.SetPriority level) reason is = absurd (none-some reason is)
-refused_command s (command.Cancel id) reason is = absurd (none-some reason is)
-refused_command s command.Onstat reason is = refl
-refused_command s (command.Onmode letter v) reason is = absurd (none-some reason is)
-refused_command s (command.Claim p f) reason is = absurd (none-some reason is)
-refused_command s (command.Run id) reason is = absurd (none-some reason is)
-refused_command s (command.Done id) reason is = absurd (none-some reason is)
-refused_command s (command.OpenSession admin) reason is = absurd (none-some reason is)
-refused_command s (command.Choose session) reason is = absurd (none-some reason is)
-refused_command s (command.CloseSession session) reason is = absurd (none-some reason is)
-refused_command s command.Hello reason is = refl
-refused_command s command.Admin reason is = refl
-refused_command s command.Quit reason is = refl
-refused_command s command.Shutdown reason is = refl
+refused_command s failed (command.Query ast) reason is = refused_query s (query_asked s.asked ast) reason is
+refused_command s failed (command.SetPriority level) reason is = absurd (none-some reason is)
+refused_command s failed (command.Cancel id) reason is = absurd (none-some reason is)
+refused_command s failed command.Onstat reason is = refl
+refused_command s failed (command.Onmode letter v) reason is = absurd (none-some reason is)
+refused_command s failed (command.Claim p f) reason is = absurd (none-some reason is)
+refused_command s failed (command.Run id) reason is = absurd (none-some reason is)
+refused_command s failed (command.Done id) reason is = absurd (none-some reason is)
+refused_command s failed (command.OpenSession admin) reason is = absurd (none-some reason is)
+refused_command s failed (command.Choose session) reason is = absurd (none-some reason is)
+refused_command s failed (command.CloseSession session) reason is = absurd (none-some reason is)
+refused_command s failed command.Hello reason is = refl
+refused_command s failed command.Admin reason is = refl
+refused_command s failed command.Quit reason is = refl
+refused_command s failed command.Shutdown reason is = refl
 
-refused_same : (s : ScriptState) (says : Said) (reason : LineFault) → fault_of s.asked says ≡ Some reason → (script_step s false says).state ≡ s
-refused_same s (Ok (Some c)) reason is = refused_command s c reason is
-refused_same s (Ok None) reason is = refl
-refused_same s (Err place) reason is = refl
+refused_same : (s : ScriptState) (failed : Bool) (says : Said) (reason : LineFault) → fault_of s.asked says ≡ Some reason → (script_step s failed says).state ≡ s
+refused_same s failed (Ok (Some c)) reason is = refused_command s failed c reason is
+refused_same s failed (Ok None) reason is = refl
+refused_same s failed (Err place) reason is = refl
 
 grown_unless : (s : ScriptState) (o : Option LineFault) (text : List ℕ) (rest : Out) (history : List Entry) → Begins s.history history → Begins rest.state.history history → Begins (unless_fault s o (after text rest)).state.history history
 grown_unless s None text rest history here there = there
@@ -167,9 +168,23 @@ grown_run s before failed (line ∷ lines) =
     (begins_then s.history step.state.history rest.state.history (grown_step s (fails_now failed) (line_of (without_return line.bytes))) (grown_run step.state (before + size_of line) (fails_later failed) lines))
 
 -- a line whose entries were made, and what is left
-pub grown_line : (s : ScriptState) (says : Said) (text : List ℕ) (rest : Out) → Begins rest.state.history (script_step s false says).state.history → Begins (unless_fault s (fault_of s.asked says) (after text rest)).state.history (script_step s false says).state.history
-grown_line s says text rest grown = go (fault_of s.asked says) refl
+pub grown_line : (s : ScriptState) (failed : Bool) (says : Said) (text : List ℕ) (rest : Out) → Begins rest.state.history (script_step s failed says).state.history → Begins (unless_fault s (fault_of s.asked says) (after text rest)).state.history (script_step s failed says).state.history
+grown_line s failed says text rest grown = go (fault_of s.asked says) refl
   where
-    go : (o : Option LineFault) → fault_of s.asked says ≡ o → Begins (unless_fault s o (after text rest)).state.history (script_step s false says).state.history
+    go : (o : Option LineFault) → fault_of s.asked says ≡ o → Begins (unless_fault s o (after text rest)).state.history (script_step s failed says).state.history
     go None is = grown
-    go (Some reason) is = let P : ScriptState → Type 0 = λ t. Begins s.history t.history in subst P (sym (refused_same s says reason is)) (begins_same s.history)
+    go (Some reason) is = let P : ScriptState → Type 0 = λ t. Begins s.history t.history in subst P (sym (refused_same s failed says reason is)) (begins_same s.history)
+
+-- the entries that were made, where memory was wanting
+pub made_all : (whole made : List Entry) → Begins whole made → MadeFirst whole made
+made_all whole made begins = record { front = made; ends = []; part = sym (append-nil made); begins = begins; given_up = tt }
+
+pub made_then : (made here whole : List Entry) → MadeFirst here made → Begins whole here → MadeFirst whole made
+made_then made here whole first begins = record { front = first.front; ends = first.ends; part = first.part; begins = begins_then first.front here whole first.begins begins; given_up = first.given_up }
+
+pub made_given_up : (whole front made : List Entry) (e : Entry) → Begins whole front → made ≡ front ++ e ∷ [] → IsGivenUp e.event → MadeFirst whole made
+made_given_up whole front made e begins is gone = record { front = front; ends = e ∷ []; part = is; begins = begins; given_up = gone }
+
+-- RUN only makes further entries
+pub grown_run_query : (s : ScriptState) (failed : Bool) (id : ℕ) → Begins (run_step s failed id).state.history s.history
+grown_run_query s failed id = grown_refused s (own_refusal s.manager s.sessions.current id) (ran_step s failed id (text_of s id)) (grown_ran s failed id (text_of s id))

@@ -29,17 +29,18 @@ use Rattle.pdq_model.proofs.Lists.{sum_by_changed}
 use Rattle.pdq_model.proofs.Soundness.{heads_none}
 use Rattle.pdq_model.proofs.Histories.{settled_replay, limits_are_kept, entries_settle, only_heads_are_admitted, overtaking_is_bounded}
 use Rattle.pdq_gate.proofs.Quiet.{settled_too}
-use Rattle.pdq_session.specs.declared.replies.LineFault.{LineFault}
-use Rattle.pdq_session.specs.declared.replies.Refusal.{Refusal}
-use Rattle.pdq_session.specs.declared.replies.Refusal.TheVariants as refusal
+use Rattle.pdq_reply.specs.declared.replies.LineFault.{LineFault}
+use Rattle.pdq_reply.specs.declared.replies.Refusal.{Refusal}
+use Rattle.pdq_reply.specs.declared.replies.Refusal.TheVariants as refusal
 use Rattle.pdq_base.specs.Lines.{InputLine, lines_of, size_of, without_return}
 use Rattle.pdq_gate.specs.Journal.{history_after}
 use Rattle.pdq_query.specs.Queries.{QueryView}
 use Rattle.pdq_sql.specs.declared.faults.SqlFault.{SqlFault}
 use Rattle.pdq_sql.specs.Commands.{CommandView}
 use Rattle.pdq_sql.specs.Commands as command
-use Rattle.pdq_session.specs.Commands.{Said, is_claim, letter_setting, level_priority, line_of}
-use Rattle.pdq_session.specs.Replies.{chosen_text, closed_text, done_text, failed_text, priority_text}
+use Rattle.pdq_session.specs.Commands.{Said, is_claim, line_of}
+use Rattle.pdq_reply.specs.Changes.{letter_setting, level_priority}
+use Rattle.pdq_reply.specs.Replies.{chosen_text, closed_text, done_text, failed_text, priority_text}
 use Rattle.pdq_session.specs.ScriptStates.{ArePercent, AreScannable, AskedTables, IsStanding, ScriptState, after_event, own_session, priority_of, starting_state, text_of, with_current, with_priority}
 use Rattle.pdq_session.specs.ScriptSteps.{Outcome, Stepped, claim_step, close_refusal, collect_step, end_step, finished_with, not_run, opened_by, outcome_of, own_refusal, query_step, ran_step, refused_step, set_step, submit_step, unless_refused, use_step, with_text}
 use Rattle.pdq_session.specs.ScriptTranscript.{Failures, Out, after, command_step, fails_later, fails_now, fault_at, query_asked, run_lines, script_step, script_transcript, unless_fault}

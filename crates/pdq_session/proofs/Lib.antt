@@ -1,15 +1,15 @@
 pub mod ActiveLists
 pub mod Standing
 pub mod Saying
-pub mod Changing
 pub mod Unasked
 pub mod Answering
 pub mod LegalScripts
 pub mod PrintedScripts
-pub mod Splitting
-pub mod Giving
 pub mod Running
 pub mod Growing
 pub mod Turning
 pub mod Starting
 pub mod Replying
+mod StoreCounts
+mod Coming
+pub mod Wide

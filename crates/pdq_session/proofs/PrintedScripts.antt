@@ -45,11 +45,12 @@ use Rattle.pdq_value.specs.declared.cells.Cell.{Cell}
 use Rattle.pdq_sql.specs.declared.faults.SqlFault.{SqlFault}
 use Rattle.pdq_sql.specs.Commands.{CommandView}
 use Rattle.pdq_sql.specs.Commands as command
-use Rattle.pdq_session.specs.declared.replies.LineFault.{LineFault}
-use Rattle.pdq_session.specs.declared.replies.Refusal.{Refusal}
-use Rattle.pdq_session.specs.declared.replies.Refusal.TheVariants as refusal
-use Rattle.pdq_session.specs.Commands.{Said, is_claim, letter_setting, level_priority, line_of}
-use Rattle.pdq_session.specs.Replies.{admit_text, admits_text, cancelled_text, chosen_text, closed_text, done_text, failed_text, priority_text, refusal_text}
+use Rattle.pdq_reply.specs.declared.replies.LineFault.{LineFault}
+use Rattle.pdq_reply.specs.declared.replies.Refusal.{Refusal}
+use Rattle.pdq_reply.specs.declared.replies.Refusal.TheVariants as refusal
+use Rattle.pdq_session.specs.Commands.{Said, is_claim, line_of}
+use Rattle.pdq_reply.specs.Changes.{letter_setting, level_priority}
+use Rattle.pdq_reply.specs.Replies.{admit_text, admits_text, cancelled_text, chosen_text, closed_text, done_text, failed_text, priority_text, refusal_text}
 use Rattle.pdq_session.specs.ScriptStates.{AskedTables, IsStanding, ScriptState, after_event, own_session, priority_of, starting_state, text_of, with_current, with_priority}
 use Rattle.pdq_session.specs.ScriptSteps.{Outcome, Stepped, cancel_text, change_text, claim_step, close_refusal, collect_step, end_step, event_text, finished_with, not_run, opened_by, outcome_of, own_refusal, query_step, ran_step, refused_step, set_step, shown_answer, submit_step, submit_text, unless_refused, use_step, with_text}
 use Rattle.pdq_session.specs.ScriptTranscript.{Failures, Out, after, command_step, fails_later, fails_now, fault_at, query_asked, run_lines, script_step, unless_fault}

@@ -20,10 +20,10 @@ use Rattle.pdq_gate.specs.declared.answers.Refused.{Refused}
 use Rattle.pdq_gate.specs.Changes.{admitted_by_change}
 use Rattle.pdq_gate.specs.Journal.{history_after, history_with, history_with_change}
 use Rattle.pdq_gate.specs.ManagerView.{ManagerView}
-use Rattle.pdq_session.specs.Progress.{Begins}
-use Rattle.pdq_session.specs.declared.replies.Refusal.TheVariants as refusal
-use Rattle.pdq_session.specs.Replies.{admits_text, refusal_text}
-use Rattle.pdq_session.specs.ScriptStates.{ScriptState, SessionsView, after_event, no_tables, script_state}
+use Rattle.pdq_session.specs.ScriptLines.{Begins}
+use Rattle.pdq_reply.specs.declared.replies.Refusal.TheVariants as refusal
+use Rattle.pdq_reply.specs.Replies.{admits_text, refusal_text}
+use Rattle.pdq_session.specs.ScriptStates.{KeptView, ScriptState, after_event, asked_of, script_state, sessions_of}
 use Rattle.pdq_session.specs.ScriptSteps.{change_text, event_text}
 use Rattle.pdq_session.proofs.Growing.{begins_is, begins_same}
 
@@ -77,10 +77,10 @@ pub refused_reply : (told : Answer → ℕ → List ℕ) (s : State) (who : ℕ)
 refused_reply told s who event reason step ready now is at first = first ∙ ap (λ xs. ready ++ xs) (refused_text told s who event reason step is at)
 
 -- a change that came with the pool that it asks for, by a session of this number: the state after it, and the replies
-pub changed_state : (m n : ManagerView) (x : SessionsView) (by : ℕ) (set : Setting) (size : PoolSize) → by ≡ x.current → answer_to_change m.state x.current set size ≡ decide m.state x.current (Onmode set) → n.state ≡ next_with_pool m.state by set size → n.history ≡ history_with_change m by set size →
+pub changed_state : (m n : ManagerView) (x : KeptView) (by : ℕ) (set : Setting) (size : PoolSize) → by ≡ x.current → answer_to_change m.state x.current set size ≡ decide m.state x.current (Onmode set) → n.state ≡ next_with_pool m.state by set size → n.history ≡ history_with_change m by set size →
     script_state n x ≡ after_event (script_state m x) x.current (Onmode set)
 changed_state m n x by set size who same state history =
-    let f : State → List Entry → ScriptState = λ s h. record { manager = s; history = h; sessions = x; texts = []; asked = no_tables } in
+    let f : State → List Entry → ScriptState = λ s h. record { manager = s; history = h; sessions = sessions_of x; texts = x.texts; asked = asked_of x.stored } in
     ap₂ f (state ∙ ap (λ w. next_with_pool m.state w set size) who ∙ ap (after_answer m.state x.current (Onmode set)) same)
     (history ∙ ap (λ w. history_with_change m w set size) who ∙ ap (history_after m.history x.current (Onmode set)) same)
 
@@ -105,9 +105,9 @@ refused_change m n by who set size told ready now is same answer at state first 
     refused_reply change_text m.state who (Onmode set) told.why told.step ready now (answer ∙ ap (λ w. answer_to_change m.state w set size) is ∙ same) (at ∙ changed_entries m n by who set size is same state) first
 
 -- an event of a session of this number: the state after it, and the replies
-pub event_state : (m n : ManagerView) (x : SessionsView) (by : ℕ) (event : Event) → by ≡ x.current → n.state ≡ next m.state by event → n.history ≡ history_with m by event → script_state n x ≡ after_event (script_state m x) x.current event
+pub event_state : (m n : ManagerView) (x : KeptView) (by : ℕ) (event : Event) → by ≡ x.current → n.state ≡ next m.state by event → n.history ≡ history_with m by event → script_state n x ≡ after_event (script_state m x) x.current event
 event_state m n x by event who state history =
-    let f : State → List Entry → ScriptState = λ s h. record { manager = s; history = h; sessions = x; texts = []; asked = no_tables } in
+    let f : State → List Entry → ScriptState = λ s h. record { manager = s; history = h; sessions = sessions_of x; texts = x.texts; asked = asked_of x.stored } in
     ap₂ f (state ∙ ap (λ w. next m.state w event) who) (history ∙ ap (λ w. history_with m w event) who)
 
 pub entered_event : (m n : ManagerView) (by who : ℕ) (event : Event) (told : Answer → ℕ → List ℕ) (r : Reply) (step : ℕ) (here : List Admit) (ready mid now : List ℕ) → by ≡ who →

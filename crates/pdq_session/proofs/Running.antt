@@ -3,18 +3,18 @@ use Rattle.std.proofs.Common.{◌≡◌, ℕ, ◌+◌, ◌<◌, ◌≤◌, Bool,
 use Rattle.std.specs.Prelude.{Some, None, nat_lt, not, min, IsTrue, if◌then◌else◌}
 use Rattle.std.proofs.lemmas.Bool.Decides.{nat_tests}
 use Rattle.std.proofs.lemmas.List.{append-nil}
-use Rattle.pdq_session.specs.declared.lines.LineOutcome.TheVariants as outcome
-use Rattle.pdq_session.specs.declared.replies.LineFault.{LineFault}
-use Rattle.pdq_session.specs.declared.replies.LineFault.TheVariants as fault
+use Rattle.pdq_reply.specs.declared.lines.LineOutcome.TheVariants as outcome
+use Rattle.pdq_reply.specs.declared.replies.LineFault.{LineFault}
+use Rattle.pdq_reply.specs.declared.replies.LineFault.TheVariants as fault
 use Rattle.pdq_base.specs.Lines.{InputLine, before_end, first_line, lines_of, onto, size_of, without_return}
-use Rattle.pdq_session.specs.Limits.{is_past_input, is_too_long}
+use Rattle.pdq_reply.specs.Limits.{is_past_input, is_too_long}
 use Rattle.pdq_session.specs.Commands.{line_of}
-use Rattle.pdq_session.specs.Replies.{fault_text}
-use Rattle.pdq_session.specs.declared.lines.LineOutcome.{LineOutcome}
-use Rattle.pdq_session.specs.Reading.{Reader, bytes_of, decided, GivesLine}
+use Rattle.pdq_reply.specs.Replies.{fault_text}
+use Rattle.pdq_reply.specs.declared.lines.LineOutcome.{LineOutcome}
+use Rattle.pdq_reply.specs.Reading.{Reader, bytes_of, decided, GivesLine}
 use Rattle.pdq_session.specs.ScriptStates.{ScriptState}
 use Rattle.pdq_session.specs.ScriptTranscript.{Failures, Out, AtFault, after, ended, fails_later, fails_now, fault_at, fault_of, run_lines, script_step, unless_fault}
-use Rattle.pdq_session.proofs.Splitting.{IsOpenLine, not_same, open_before_end, before_end-end, before_end-other, lt_suc, lt_zero}
+use Rattle.pdq_reply.proofs.Splitting.{IsOpenLine, not_same, open_before_end, before_end-end, before_end-other, lt_suc, lt_zero}
 
 -- a line and its end
 pub lines_of-line : (line more : List ℕ) → IsOpenLine line → lines_of (line ++ 10 ∷ more) ≡ record { bytes = line; ended = true } ∷ lines_of more

@@ -4,9 +4,9 @@ use Rattle.std.specs.Prelude.{IsTrue, ◌&&◌, nat_lt, if◌then◌else◌, sli
 use Rattle.std.proofs.lemmas.Bool.Decides.{nat_tests}
 use Rattle.pdq_base.specs.Lines.{InputLine, without_return}
 use Rattle.pdq_sql.specs.LineReading.{has_no_end}
-use Rattle.pdq_session.specs.Limits.{is_too_long}
-use Rattle.pdq_session.specs.Reading.{GivesLine, Reader}
-use Rattle.pdq_session.proofs.Splitting.{IsOpenLine, not_same, open_before_end}
+use Rattle.pdq_reply.specs.Limits.{is_too_long}
+use Rattle.pdq_reply.specs.Reading.{GivesLine, Reader}
+use Rattle.pdq_reply.proofs.Splitting.{IsOpenLine, not_same, open_before_end}
 
 open_has_none : (line : List ℕ) → IsOpenLine line → IsTrue (has_no_end line)
 open_has_none [] is_open = refl

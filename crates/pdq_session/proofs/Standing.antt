@@ -32,10 +32,11 @@ use Rattle.pdq_query.specs.Queries.{QueryView}
 use Rattle.pdq_sql.specs.declared.faults.SqlFault.{SqlFault}
 use Rattle.pdq_sql.specs.Commands.{CommandView}
 use Rattle.pdq_sql.specs.Commands as command
-use Rattle.pdq_session.specs.declared.replies.Refusal.{Refusal}
-use Rattle.pdq_session.specs.declared.replies.Refusal.TheVariants as refusal
-use Rattle.pdq_session.specs.Commands.{Said, is_claim, letter_setting, level_priority}
-use Rattle.pdq_session.specs.Replies.{chosen_text, closed_text, done_text, failed_text, priority_text}
+use Rattle.pdq_reply.specs.declared.replies.Refusal.{Refusal}
+use Rattle.pdq_reply.specs.declared.replies.Refusal.TheVariants as refusal
+use Rattle.pdq_session.specs.Commands.{Said, is_claim}
+use Rattle.pdq_reply.specs.Changes.{letter_setting, level_priority}
+use Rattle.pdq_reply.specs.Replies.{chosen_text, closed_text, done_text, failed_text, priority_text}
 use Rattle.pdq_session.specs.ScriptStates.{ArePercent, IsStanding, ScriptState, after_event, priority_of, text_of, with_current, with_priority}
 use Rattle.pdq_session.specs.ScriptSteps.{Outcome, Stepped, claim_step, close_refusal, collect_step, end_step, finished_with, not_run, opened_by, outcome_of, own_refusal, query_step, ran_step, refused_step, set_step, submit_step, unless_refused, use_step, with_text}
 use Rattle.pdq_session.specs.ScriptTranscript.{command_step, query_asked, script_step}
@@ -210,7 +211,7 @@ standing_end s id outcome stands = go outcome.failed
     go true = standing_by_own s (Finish id Failed) refl stands
     go false = standing_by_own s (Finish id Done) refl stands
 
-standing_collect : (s : ScriptState) (id : ℕ) (outcome : Outcome) (answer : Answer) → IsStanding s → IsStanding (collect_step s id outcome answer).state
+pub standing_collect : (s : ScriptState) (id : ℕ) (outcome : Outcome) (answer : Answer) → IsStanding s → IsStanding (collect_step s id outcome answer).state
 standing_collect s id outcome (Entered (reply.Granted quanta scans priority None)) stands = standing_end (after_event s s.sessions.current (Collect id)) id outcome (standing_by_own s (Collect id) refl stands)
 standing_collect s id outcome (Entered (reply.Granted quanta scans priority (Some by))) stands = standing_by_own (after_event s s.sessions.current (Collect id)) (Finish id Stopped) refl (standing_by_own s (Collect id) refl stands)
 standing_collect s id outcome (Entered (reply.Cancelled by)) stands = standing_by_own s (Collect id) refl stands
@@ -225,13 +226,13 @@ standing_text s q (Entered r) step stands = record { current = stands.current; o
 standing_text s q (Waits gate) step stands = stands
 standing_text s q (Refuses reason) step stands = stands
 
-standing_query : (s : ScriptState) (r : Result QueryView SqlFault) → IsStanding s → IsStanding (query_step s r).state
+pub standing_query : (s : ScriptState) (r : Result QueryView SqlFault) → IsStanding s → IsStanding (query_step s r).state
 standing_query s (Err e) stands = stands
 standing_query s (Ok q) stands =
     let p : ℕ = priority_of s.sessions s.sessions.current in
     standing_text s q (decide s.manager s.sessions.current (Submit p (s.asked.widest q))) (submit_step s p (s.asked.widest q)) (standing_by_own s (Submit p (s.asked.widest q)) refl stands)
 
-standing_command : (s : ScriptState) (failed : Bool) (c : CommandView) → IsStanding s → IsStanding (command_step s failed c).state
+pub standing_command : (s : ScriptState) (failed : Bool) (c : CommandView) → IsStanding s → IsStanding (command_step s failed c).state
 unfolding command_step
 standing_command s failed (command.SetPriority level) stands = standing_set s (level_priority s.sessions.opening level) stands
 standing_command s failed (command.Query ast) stands = standing_query s (query_asked s.asked ast) stands

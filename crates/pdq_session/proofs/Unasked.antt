@@ -1,5 +1,5 @@
--- A query of a script without tables is never resolved: it asks some table, and there is none.
-use Rattle.std.proofs.Common.{◌≡◌, ◌⊎◌, inl, inr, ◌≤◌, List, [], ◌∙◌, length, refl, sym, ap, arith, Option, None, Some, Result, Ok, Err, IfOk, IfSome, option_map}
+-- What a line says: a select that was read has its parts, and a line that is run has no fault.
+use Rattle.std.proofs.Common.{◌≡◌, ◌⊎◌, inl, inr, ℕ, ◌≤◌, Bool, List, [], ◌∙◌, length, refl, sym, ap, subst, arith, Option, None, Some, Result, Ok, Err, IfOk, IfErr, IfSome, option_map}
 use Rattle.pdq_query.specs.Fits.{Fits}
 use Rattle.pdq_query.specs.Queries.{QueryView}
 use Rattle.pdq_sql.specs.declared.commands.LineHome.{LineHome}
@@ -17,12 +17,16 @@ use Rattle.pdq_sql.specs.Commands.{CommandView, command_of}
 use Rattle.pdq_sql.specs.Commands as command
 use Rattle.pdq_sql.specs.Grammar.{AreParts, last, more}
 use Rattle.pdq_sql.specs.LineGrammar.{IsCommand, IsLine, line, query}
-use Rattle.pdq_session.specs.declared.replies.LineFault.TheVariants as fault
+use Rattle.pdq_reply.specs.declared.replies.LineFault.TheVariants as fault
 use Rattle.pdq_session.specs.declared.script_lines.Unread.{Unread}
 use Rattle.pdq_session.specs.declared.script_lines.Unread.TheVariants as unread
-use Rattle.pdq_session.specs.Commands.{AsksNoTable, IsUnread, QueryHasParts, Said}
-use Rattle.pdq_session.specs.ScriptStates.{no_tables}
-use Rattle.pdq_session.specs.ScriptTranscript.{fault_of, fault_of_command, fault_of_query}
+use Rattle.pdq_session.specs.declared.script_lines.ScriptLine.{ScriptLine}
+use Rattle.pdq_session.specs.declared.script_lines.ScriptLine.TheVariants as script
+use Rattle.pdq_session.specs.Commands.{AsksNoTable, IsUnread, QueryHasParts, Said, said_as}
+use Rattle.pdq_session.specs.ScriptLines.{IsLineOf, LineFits, SaysLine, line_step}
+use Rattle.pdq_session.specs.ScriptStates.{AskedTables, ScriptState}
+use Rattle.pdq_session.specs.ScriptSteps.{query_step}
+use Rattle.pdq_session.specs.ScriptTranscript.{command_step, fault_of, fault_of_command, fault_of_query, script_step}
 
 parts_some : {X : Type 0} (m : Mark) (R : List Token → List Token → X → Type 0) (rest ts : List Token) (xs : List X) → AreParts m R rest ts xs → 1 ≤ length xs
 parts_some m R rest ts xs (last us x r) = omega arith
@@ -38,31 +42,62 @@ line_parts home ts c (line g is end) = command_parts home ts g c is
 pub none_fits : (q : QueryView) → Fits [] q → ⊥
 none_fits q fits = let below = fits.tables 0 0 (omega (arith, fits.some_table)) in absurd (omega (arith, below))
 
--- a command that is no query asks no table, and does not end the script
-pub asks_none : (c : Command) → ((ast : Ast) → c ≡ told.Query ast → ⊥) → AsksNoTable (command_of c)
-asks_none (told.Query ast) differs = absurd (differs ast refl)
-asks_none other differs = tt
+-- a command that is neither QUERY nor RUN asks no table, and does not end the script
+pub asks_none : (c : Command) → ((ast : Ast) → c ≡ told.Query ast → ⊥) → ((id : ℕ) → c ≡ told.Run id → ⊥) → AsksNoTable (command_of c)
+asks_none (told.Query ast) differs other = absurd (differs ast refl)
+asks_none (told.Run id) differs other = absurd (other id refl)
+asks_none c differs other = tt
 
-pub good_command : (c : CommandView) → AsksNoTable c → fault_of_command no_tables c ≡ None
-good_command (command.Query ast) asks = absurd asks
-good_command other asks = refl
+good_command : (asked : AskedTables) (c : CommandView) → AsksNoTable c → fault_of_command asked c ≡ None
+good_command asked (command.Query ast) asks = absurd asks
+good_command asked (command.Run id) asks = absurd asks
+good_command asked c asks = refl
+
+line_good : (asked : AskedTables) (said : Option CommandView) (l : ScriptLine) → IsLineOf asked said l → fault_of asked (Ok said) ≡ None
+line_good asked said script.Blank is = ap (λ (o : Option CommandView). fault_of asked (Ok o)) is
+line_good asked said (script.Query q) r = ap (λ (o : Option CommandView). fault_of asked (Ok o)) r.is ∙ ap fault_of_query r.resolves
+line_good asked said (script.Run id) is = ap (λ (o : Option CommandView). fault_of asked (Ok o)) is
+line_good asked said (script.Other c) o = ap (λ (o : Option CommandView). fault_of asked (Ok o)) o.is ∙ good_command asked (command_of c) o.asks
+
+line_steps : (s : ScriptState) (failed : Bool) (said : Option CommandView) (l : ScriptLine) → IsLineOf s.asked said l → script_step s failed (Ok said) ≡ line_step s failed l
+unfolding command_step
+line_steps s failed said script.Blank is = ap (λ (o : Option CommandView). script_step s failed (Ok o)) is
+line_steps s failed said (script.Query q) r = ap (λ (o : Option CommandView). script_step s failed (Ok o)) r.is ∙ ap (query_step s) r.resolves
+line_steps s failed said (script.Run id) is = ap (λ (o : Option CommandView). script_step s failed (Ok o)) is
+line_steps s failed said (script.Other c) o = ap (λ (o : Option CommandView). script_step s failed (Ok o)) o.is
+
+-- a line that is run has no fault, and does what it says
+pub says_good : (asked : AskedTables) (said : Said) (l : ScriptLine) → SaysLine asked said l → fault_of asked said ≡ None
+says_good asked (Ok said) l is = line_good asked said l is
+says_good asked (Err place) l is = absurd is
+
+pub says_step : (s : ScriptState) (failed : Bool) (said : Said) (l : ScriptLine) → SaysLine s.asked said l → script_step s failed said ≡ line_step s failed l
+says_step s failed (Ok said) l is = line_steps s failed said l is
+says_step s failed (Err place) l is = absurd is
+
+-- what it needs of its tables
+line_fits : (asked : AskedTables) (said : Option CommandView) (l : ScriptLine) → IsLineOf asked said l → LineFits asked l
+line_fits asked said script.Blank is = tt
+line_fits asked said (script.Query q) r = r.fits
+line_fits asked said (script.Run id) is = tt
+line_fits asked said (script.Other c) o = o.asks
+
+pub says_fits : (asked : AskedTables) (said : Said) (l : ScriptLine) → SaysLine asked said l → LineFits asked l
+says_fits asked (Ok said) l is = line_fits asked said l is
+says_fits asked (Err place) l is = absurd is
 
 -- what was read of a line is a query with its parts, or none; what is run of it asks no table
 pub some_parts : (home : LineHome) (ts : List Token) (o : Option Command) → IfSome o (λ c. IsLine home ts (command_of c)) → IfSome o (λ c. QueryHasParts (command_of c))
 some_parts home ts None is = tt
 some_parts home ts (Some c) is = line_parts home ts (command_of c) is
 
-abbrev pub said_by : Option Command → Said
-said_by o = Ok (option_map command_of o)
+pub said_line : (asked : AskedTables) (r : Result ScriptLine Unread) (says : Said) (said : Option Command) → says ≡ said_as said → IfOk r (IsLineOf asked (option_map command_of said)) → IfOk r (SaysLine asked says)
+said_line asked (Ok l) says said is same = let P : Said → Type 0 = λ x. SaysLine asked x l in subst P (sym is) same
+said_line asked (Err u) says said is same = tt
 
-pub said_same : (r : Result (Option Command) Unread) (says : Said) (said : Option Command) → says ≡ said_by said → IfOk r (λ o. o ≡ said) → IfOk r (λ o. says ≡ said_by o)
-said_same (Ok o) says said is same = is ∙ ap said_by (sym same)
-said_same (Err u) says said is same = tt
-
-pub said_good : (r : Result (Option Command) Unread) (says : Said) (said : Option Command) → says ≡ said_by said → IfOk r (λ o. o ≡ said) → IfOk r (λ o. IfSome o (λ c. AsksNoTable (command_of c))) → IfOk r (λ o. fault_of no_tables says ≡ None)
-said_good (Ok None) says said is same asks = ap (fault_of no_tables) (is ∙ ap said_by (sym same))
-said_good (Ok (Some c)) says said is same asks = ap (fault_of no_tables) (is ∙ ap said_by (sym same)) ∙ good_command (command_of c) asks
-said_good (Err u) says said is same asks = tt
+pub said_bad : (asked : AskedTables) (r : Result ScriptLine Unread) (says : Said) (said : Option Command) → says ≡ said_as said → IfErr r (λ u. IsUnread u (fault_of asked (said_as said))) → IfErr r (λ u. IsUnread u (fault_of asked says))
+said_bad asked (Ok l) says said is bad = tt
+said_bad asked (Err u) says said is bad = let P : Said → Type 0 = λ x. IsUnread u (fault_of asked x) in subst P (sym is) bad
 
 -- a query is refused as its resolution is, and a line as its reading is, unless memory was wanting
 pub unread_query : (u : Unread) (e : SqlFault) (r : Result QueryView SqlFault) → IsUnread u (Some (fault.Refused e)) → (e.why ≡ Memory → u ≡ unread.Memory) → (e ≡ no_memory) ⊎ (r ≡ Err e) → IsUnread u (fault_of_query r)
@@ -70,11 +105,11 @@ unread_query unread.Memory e r value memory wrong = tt
 unread_query (unread.Fault f) e r value memory (inl same) = let m : unread.Fault f ≡ unread.Memory = memory (ap (λ (x : SqlFault). x.why) same) in cc
 unread_query (unread.Fault f) e r value memory (inr bad) = ap fault_of_query bad ∙ value
 
-pub unread_line : (u : Unread) (e : SqlFault) (r : Said) → IsUnread u (Some (fault.Refused e)) → (e.why ≡ Memory → u ≡ unread.Memory) → IsRefusedAs e.why e.place r → IsUnread u (fault_of no_tables r)
-unread_line unread.Memory e r value memory bad = tt
-unread_line (unread.Fault f) e r value memory bad = go e.why refl bad
+pub unread_line : (asked : AskedTables) (u : Unread) (e : SqlFault) (r : Said) → IsUnread u (Some (fault.Refused e)) → (e.why ≡ Memory → u ≡ unread.Memory) → IsRefusedAs e.why e.place r → IsUnread u (fault_of asked r)
+unread_line asked unread.Memory e r value memory bad = tt
+unread_line asked (unread.Fault f) e r value memory bad = go e.why refl bad
   where
-    go : (why : SqlWhy) → e.why ≡ why → IsRefusedAs why e.place r → fault_of no_tables r ≡ Some f
-    go BadLine is refused = ap (fault_of no_tables) refused ∙ ap (λ (w : SqlWhy). Some (fault.Refused (record { why = w; place = e.place }))) (sym is) ∙ value
+    go : (why : SqlWhy) → e.why ≡ why → IsRefusedAs why e.place r → fault_of asked r ≡ Some f
+    go BadLine is refused = ap (fault_of asked) refused ∙ ap (λ (w : SqlWhy). Some (fault.Refused (record { why = w; place = e.place }))) (sym is) ∙ value
     go Memory is refused = let m : unread.Fault f ≡ unread.Memory = memory is in cc
     go other is refused = absurd refused

@@ -1,12 +1,8 @@
 pub mod ScriptLaws
-pub mod Limits
-pub mod Reading
 pub mod Commands
-pub mod Replies
-pub mod Changes
 pub mod ScriptStates
 pub mod ScriptSteps
 pub mod ScriptTranscript
 pub mod Progress
-pub mod Answers
 pub mod PrintedLines
+pub mod ScriptLines

@@ -9,11 +9,12 @@ use Rattle.pdq_stat.specs.StatusText.{status_text}
 use Rattle.pdq_value.specs.declared.cells.Cell.{Cell}
 use Rattle.pdq_base.specs.Lines.{InputLine, lines_of, without_return}
 use Rattle.pdq_sql.specs.Commands as command
-use Rattle.pdq_session.specs.declared.replies.LineFault.{LineFault}
-use Rattle.pdq_session.specs.declared.replies.Refusal.{Refusal}
-use Rattle.pdq_session.specs.Answers.{rows_text, too_many_rows}
-use Rattle.pdq_session.specs.Commands.{Said, letter_setting, line_of}
-use Rattle.pdq_session.specs.Replies.{admit_text, cancelled_text, changed_text, chosen_text, closed_text, done_text, end_line, failed_text, fault_text, flagged_text, pending_text, placed_text, priority_text, refusal_text, session_text, stopped_text, store_failed, withdrawn_text}
+use Rattle.pdq_reply.specs.declared.replies.LineFault.{LineFault}
+use Rattle.pdq_reply.specs.declared.replies.Refusal.{Refusal}
+use Rattle.pdq_reply.specs.Answers.{rows_text, too_many_rows}
+use Rattle.pdq_session.specs.Commands.{Said, line_of}
+use Rattle.pdq_reply.specs.Changes.{letter_setting}
+use Rattle.pdq_reply.specs.Replies.{admit_text, cancelled_text, changed_text, chosen_text, closed_text, done_text, end_line, failed_text, fault_text, flagged_text, pending_text, placed_text, priority_text, refusal_text, session_text, stopped_text, store_failed, withdrawn_text}
 use Rattle.pdq_session.specs.ScriptStates.{AreScannable, AskedTables}
 use Rattle.pdq_session.specs.ScriptTranscript.{Failures, script_transcript}
 

@@ -20,12 +20,13 @@ use Rattle.pdq_query.specs.Answer.{answer}
 use Rattle.pdq_query.specs.Queries.{QueryView}
 use Rattle.pdq_sql.specs.declared.faults.SqlFault.{SqlFault}
 use Rattle.pdq_sql.specs.declared.commands.Letter.{Letter}
-use Rattle.pdq_session.specs.declared.replies.Refusal.{Refusal}
-use Rattle.pdq_session.specs.declared.replies.Refusal.TheVariants as refusal
-use Rattle.pdq_session.specs.Answers.{rows_text, too_many_rows}
-use Rattle.pdq_session.specs.Commands.{is_claim, letter_setting}
+use Rattle.pdq_reply.specs.declared.replies.Refusal.{Refusal}
+use Rattle.pdq_reply.specs.declared.replies.Refusal.TheVariants as refusal
+use Rattle.pdq_reply.specs.Answers.{rows_text, too_many_rows}
+use Rattle.pdq_session.specs.Commands.{is_claim}
+use Rattle.pdq_reply.specs.Changes.{letter_setting}
 use Rattle.pdq_session.specs.ScriptStates.{AskedTables, ScriptState, after_event, priority_of, text_of, with_current, with_opened, with_priority}
-use Rattle.pdq_session.specs.Replies.{admits_text, cancelled_text, changed_text, chosen_text, closed_text, done_text, failed_text, flagged_text, pending_text, placed_text, priority_text, refusal_text, session_text, stopped_text, store_failed, withdrawn_text}
+use Rattle.pdq_reply.specs.Replies.{admits_text, cancelled_text, changed_text, chosen_text, closed_text, done_text, failed_text, flagged_text, pending_text, placed_text, priority_text, refusal_text, session_text, stopped_text, store_failed, withdrawn_text}
 
 -- the reply to one line, and the state after it
 pub record Stepped : Type 0 where

@@ -9,14 +9,15 @@ use Rattle.pdq_sql.specs.Commands.{CommandView}
 use Rattle.pdq_sql.specs.Commands as command
 use Rattle.pdq_sql.specs.Asts.{AstView}
 use Rattle.pdq_sql.specs.Resolution.{resolution_of}
-use Rattle.pdq_session.specs.declared.replies.LineFault.{LineFault}
-use Rattle.pdq_session.specs.declared.replies.LineFault.TheVariants as fault
+use Rattle.pdq_reply.specs.declared.replies.LineFault.{LineFault}
+use Rattle.pdq_reply.specs.declared.replies.LineFault.TheVariants as fault
 use Rattle.pdq_base.specs.Lines.{InputLine, lines_of, size_of, without_return}
-use Rattle.pdq_session.specs.Limits.{is_past_input, is_too_long}
-use Rattle.pdq_session.specs.Commands.{Said, level_priority, line_of}
+use Rattle.pdq_reply.specs.Limits.{is_past_input, is_too_long}
+use Rattle.pdq_session.specs.Commands.{Said, line_of}
+use Rattle.pdq_reply.specs.Changes.{level_priority}
 use Rattle.pdq_session.specs.ScriptStates.{AskedTables, ScriptState, own_session, starting_state}
 use Rattle.pdq_session.specs.ScriptSteps.{Stepped, cancel_step, claim_step, close_step, done_step, onmode_step, onstat_step, open_step, query_step, run_step, set_step, silent_step, use_step}
-use Rattle.pdq_session.specs.Replies.{end_text, fault_text, session_text}
+use Rattle.pdq_reply.specs.Replies.{end_text, fault_text, session_text}
 
 -- how a script ends: at the end of its input, or at a line that is refused
 pub data ScriptEnding : Type 0 where

@@ -1,5 +1,5 @@
 //! The commands of a script, which act on the manager and on the sessions of the script.
-ghost use Rattle.std.specs.Prelude.{◌≡◌, ◌≤◌, ◌++◌, false, Ok, IfNone, IfSome, IsTrue, OnErr, OnOk, option_map};
+ghost use Rattle.std.specs.Prelude.{◌≡◌, ◌≤◌, ◌++◌, false, Ok, IfNone, IsTrue, OnErr, OnOk};
 ghost use Rattle.pdq_model.specs.declared.events.Event.TheVariants.{Collect};
 ghost use Rattle.pdq_model.specs.Step.{decide, is_open};
 ghost use Rattle.pdq_model.specs.History.{may_collect, MayClose};
@@ -7,23 +7,24 @@ ghost use Rattle.pdq_gate.specs.Answers.{answer_of_cancelled, answer_of_changed}
 ghost use Rattle.pdq_gate.specs.Changes.{setting_of};
 ghost use Rattle.pdq_gate.specs.Queries.{holder_of, session_of, MayFinish};
 ghost use Rattle.pdq_sql.specs.Commands.{command_of};
-ghost use Rattle.pdq_session.specs.Changes.{IsAskedFor};
-ghost use Rattle.pdq_session.specs.Commands.{level_priority, AsksNoTable};
-ghost use Rattle.pdq_session.specs.Progress.{Begins};
-ghost use Rattle.pdq_session.specs.ScriptStates.{script_state, IsStanding};
-ghost use Rattle.pdq_session.specs.ScriptSteps.{cancel_step, cancel_text, change_step, change_text, claim_step, close_refusal, close_step, collect_step, done_step, finish_step, not_run, onmode_step, onstat_step, open_step, own_refusal, run_step, set_step, submit_step, use_step};
-ghost use Rattle.pdq_session.specs.ScriptTranscript.{command_step, script_step};
+ghost use Rattle.pdq_reply.specs.Changes.{IsAskedFor};
+ghost use Rattle.pdq_session.specs.Commands.{AsksNoTable};
+ghost use Rattle.pdq_reply.specs.Changes.{level_priority};
+ghost use Rattle.pdq_session.specs.ScriptLines.{Begins};
+ghost use Rattle.pdq_session.specs.ScriptStates.{script_state, KeepsTexts};
+ghost use Rattle.pdq_session.specs.ScriptSteps.{cancel_step, cancel_text, change_step, change_text, claim_step, close_refusal, close_step, collect_step, done_step, finish_step, not_run, onmode_step, onstat_step, open_step, own_refusal, set_step, submit_step, use_step};
+ghost use Rattle.pdq_session.specs.ScriptTranscript.{command_step};
 
-use crate::changes::change_for;
-use crate::replies::{
-    Refusal, add_admits, add_cancelled, add_changed, add_chosen, add_closed, add_done, add_flagged,
-    add_pending, add_placed, add_priority, add_refusal, add_session, add_stopped, add_withdrawn,
-};
 use crate::script_sessions::ScriptSessions;
 use pdq_base::Memory;
 use pdq_frame::Region;
 use pdq_gate::{Cancelled, Change, Changed, Collected, Manager, Status, Submitted};
 use pdq_model::{How, Why};
+use pdq_reply::{
+    Refusal, add_admits, add_cancelled, add_changed, add_chosen, add_closed, add_done, add_flagged,
+    add_pending, add_placed, add_priority, add_refusal, add_session, add_stopped, add_withdrawn,
+    change_for,
+};
 use pdq_sql::{Command, Letter, Level};
 use pdq_stat::onstat_text;
 use std::alloc::{AllocError, Global};
@@ -38,6 +39,7 @@ fn set_priority(
 ) -> Result<(), AllocError>
     ensures replies { OnOk result (replies.new.items ≡ replies.old.items ++ (set_step (script_state manager.now sessions.old) (level_priority sessions.old.opening level)).text) }
     ensures state { script_state manager.now sessions.new ≡ (set_step (script_state manager.now sessions.old) (level_priority sessions.old.opening level)).state }
+    ensures kept { KeepsTexts sessions.old sessions.new }
 {
     let priority = sessions.asked(level);
     if priority > 100 {
@@ -222,6 +224,7 @@ fn open_session(
     ensures replies { OnOk result (replies.new.items ≡ replies.old.items ++ (open_step (script_state manager.old sessions.old) admin).text) }
     ensures state { OnOk result (script_state manager.new sessions.new ≡ (open_step (script_state manager.old sessions.old) admin).state) }
     ensures entries { OnErr result (manager.new.history ≡ (open_step (script_state manager.old sessions.old) admin).state.history) }
+    ensures kept { KeepsTexts sessions.old sessions.new }
     ensures opening { manager.new.opening ≡ manager.old.opening }
 {
     match manager.open_session(admin) {
@@ -243,6 +246,7 @@ fn use_session(
 ) -> Result<(), AllocError>
     ensures replies { OnOk result (replies.new.items ≡ replies.old.items ++ (use_step (script_state manager.now sessions.old) session).text) }
     ensures state { script_state manager.now sessions.new ≡ (use_step (script_state manager.now sessions.old) session).state }
+    ensures kept { KeepsTexts sessions.old sessions.new }
 {
     if manager.is_open(session) {
         sessions.choose(session);
@@ -288,7 +292,7 @@ fn close_session(
 }
 
 /// Ends a collected query that was not run: as stopped, where it was cancelled at the step `flagged`.
-fn finish(
+pub(crate) fn finish(
     alloc: Global,
     manager: &mut Manager,
     sessions: &ScriptSessions,
@@ -318,7 +322,7 @@ fn finish(
 }
 
 // Why a query cannot be collected by this session.
-fn own_refusal(manager: &Manager, current: u32, id: u32) -> Option<Refusal>
+pub(crate) fn own_refusal(manager: &Manager, current: u32, id: u32) -> Option<Refusal>
     ensures value { result ≡ own_refusal manager.now.state current id }
     ensures may { IfNone result (IsTrue (may_collect manager.now.state (session_of manager.now.state id) id)) }
     ensures own { IfNone result (session_of manager.now.state id ≡ current) }
@@ -378,21 +382,6 @@ fn done(
     }
 }
 
-/// Answers the line RUN of a script without tables, where no query has a text.
-fn run_query(
-    alloc: Global,
-    manager: &Manager,
-    sessions: &ScriptSessions,
-    replies: &mut Vec<u8>,
-    id: u32,
-) -> Result<(), AllocError>
-    ensures replies { OnOk result (replies.new.items ≡ replies.old.items ++ (run_step (script_state manager.now sessions.now) false id).text) }
-    ensures state { (run_step (script_state manager.now sessions.now) false id).state ≡ script_state manager.now sessions.now }
-{
-    let refusal = own_refusal(manager, sessions.current(), id).unwrap_or(Refusal::NotNow);
-    add_refusal(alloc, replies, refusal, manager.step())
-}
-
 /// Runs a command that asks no table.
 #[tactic(auto, unfolding(crate::specs::ScriptTranscript::command_step))]
 pub(crate) fn run_command(
@@ -407,6 +396,7 @@ pub(crate) fn run_command(
     ensures replies { OnOk result (replies.new.items ≡ replies.old.items ++ (command_step (script_state manager.old sessions.old) false (command_of command)).text) }
     ensures state { OnOk result (script_state manager.new sessions.new ≡ (command_step (script_state manager.old sessions.old) false (command_of command)).state) }
     ensures entries { OnErr result (Begins (command_step (script_state manager.old sessions.old) false (command_of command)).state.history manager.new.history) }
+    ensures kept { KeepsTexts sessions.old sessions.new }
     ensures opening { manager.new.opening ≡ manager.old.opening }
 {
     match command {
@@ -420,7 +410,7 @@ pub(crate) fn run_command(
         Command::Claim { priority, frags } => {
             claim(alloc, manager, sessions, replies, priority, frags)
         }
-        Command::Run(id) => run_query(alloc, manager, sessions, replies, id),
+        Command::Run(_) => unreachable!(),
         Command::Done(id) => done(alloc, manager, sessions, replies, id),
         Command::OpenSession { admin } => open_session(alloc, manager, sessions, replies, admin),
         Command::Choose(session) => use_session(alloc, manager, sessions, replies, session),
@@ -431,27 +421,5 @@ pub(crate) fn run_command(
         Command::Admin => Ok(()),
         Command::Quit => Ok(()),
         Command::Shutdown => Ok(()),
-    }
-}
-
-/// Runs a line that asks no table; None is a blank line or a comment.
-pub(crate) fn run_line(
-    alloc: Global,
-    manager: &mut Manager,
-    sessions: &mut ScriptSessions,
-    replies: &mut Vec<u8>,
-    line: Option<Command>,
-) -> Result<(), AllocError>
-    requires asks { IfSome line (λ c. AsksNoTable (command_of c)) }
-    requires standing { IsStanding (script_state manager.old sessions.old) }
-    ensures replies { OnOk result (replies.new.items ≡ replies.old.items ++ (script_step (script_state manager.old sessions.old) false (Ok (option_map command_of line))).text) }
-    ensures state { OnOk result (script_state manager.new sessions.new ≡ (script_step (script_state manager.old sessions.old) false (Ok (option_map command_of line))).state) }
-    ensures entries { OnErr result (Begins (script_step (script_state manager.old sessions.old) false (Ok (option_map command_of line))).state.history manager.new.history) }
-    ensures standing { OnOk result (IsStanding (script_state manager.new sessions.new)) }
-    ensures opening { manager.new.opening ≡ manager.old.opening }
-{
-    match line {
-        Some(command) => run_command(alloc, manager, sessions, replies, command),
-        None => Ok(()),
     }
 }

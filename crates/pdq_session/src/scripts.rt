@@ -1,28 +1,31 @@
 //! Scripts: lines that are run on the manager one after another.
-ghost use Rattle.std.specs.Prelude.{◌≡◌, ◌≢◌, ◌<◌, ◌≤◌, ◌++◌, [], None, true, IsTrue, OnErr, OnOk, length};
+ghost use Rattle.std.specs.Prelude.{◌≡◌, ◌≢◌, ◌<◌, ◌≤◌, ◌++◌, [], IfOk, None, true, IsTrue, OnErr, OnOk, length, map};
+ghost use Rattle.std.specs.Option.{option_copied};
 ghost use Rattle.pdq_edge.specs.Bytes.{Grows, GrewSome};
 ghost use Rattle.pdq_edge.specs.Causes.{HasCause, Rose};
 ghost use Rattle.pdq_sql.specs.LineReading.{has_no_end};
-ghost use Rattle.pdq_session.specs.Progress.{progress, source_view, Answers, Concludes, EndsOn, IsGoing, Refuses, RefusesUnread, Turns};
-ghost use Rattle.pdq_session.specs.Reading.{decided};
-ghost use Rattle.pdq_session.specs.Replies.{end_text, session_text};
-ghost use Rattle.pdq_session.specs.ScriptStates.{no_tables, opening_sessions, own_session, script_state, starting_state, IsFresh, IsStanding};
+ghost use Rattle.pdq_exec.specs.Runs.{AreStoresAfter};
+ghost use Rattle.pdq_session.specs.Progress.{progress, source_view, stores_told, Answers, Concludes, EndsOn, IsGoing, Refuses, RefusesUnread, Turns};
+ghost use Rattle.pdq_reply.specs.Reading.{decided};
+ghost use Rattle.pdq_reply.specs.Replies.{end_text, session_text};
+ghost use Rattle.pdq_session.specs.ScriptStates.{asked_of, opening_kept, AreScannable, own_session, script_state, starting_state, IsFresh, IsReady, IsTrusted};
 ghost use Rattle.pdq_session.specs.ScriptTranscript.{script_transcript};
 
-use crate::lines::{LineOutcome, LineReader};
-use crate::replies::{LineFault, add_end, add_fault, add_session};
-use crate::script_commands::run_line;
-use crate::script_lines::{Unread, read_command};
-use crate::script_sessions::ScriptSessions;
-use pdq_edge::{Failed, Sink, Source, write_all};
+use crate::script_lines::{Unread, read_script_line};
+use crate::script_running::run_line;
+use crate::script_sessions::{ScriptSessions, know_tables};
+use pdq_edge::{Failed, Sink, Source, Spill, write_all};
 use pdq_gate::Manager;
+use pdq_reply::{LineFault, LineOutcome, LineReader, add_end, add_fault, add_session};
+use pdq_table::Stored;
 use std::alloc::{AllocError, Global};
+use std::thread::Threads;
 
 /// How a script ends.
 #[derive(Clone, Copy, Debug, PartialEq, Eq)]
 pub enum ScriptEnd {
     /// The script ran to the end of its input. `store_failed` says that a query was answered with the failure of a
-    /// store, which no command of a script without tables is.
+    /// store.
     End { store_failed: bool },
     /// A line was refused so that the script ended; its ERROR line was written last.
     BadScript,
@@ -96,32 +99,38 @@ fn refuse_unread<Si: Sink>(
 }
 
 /// Answers the line that the reader has given.
-fn answer_line<Si: Sink>(
+fn answer_line<R: Threads + Sync, Si: Sink, Sp: Spill + Send>(
+    rt: &R,
     alloc: Global,
     manager: &mut Manager,
     sessions: &mut ScriptSessions,
     reader: &LineReader,
     replies: &mut Vec<u8>,
     sink: &mut Si,
+    stores: &mut Vec<Sp>,
 ) -> Turn
+    requires stores { length stores.old.items ≡ 48 }
     requires size { length reader.now.line ≤ 8192 }
     requires line { IsTrue (has_no_end reader.now.line) }
-    requires standing { IsStanding (script_state manager.old sessions.old) }
-    ensures answers { Answers result reader.now.line reader.now.last (Si.written sink.old) (Si.written sink.new)
-        (progress (script_state manager.old sessions.old) reader.now replies.old.items) (progress (script_state manager.new sessions.new) reader.now replies.new.items) }
+    requires ready { IsReady (script_state manager.old sessions.old) }
+    ensures answers { IsTrusted sessions.old.stored Sp.blocks stores.old.items → Answers result reader.now.line reader.now.last (Si.written sink.old) (Si.written sink.new)
+        (progress (script_state manager.old sessions.old) reader.now replies.old.items (stores_told Sp.faults stores.old.items sessions.old.store_failed)) (progress (script_state manager.new sessions.new) reader.now replies.new.items (stores_told Sp.faults stores.new.items sessions.new.store_failed)) }
     ensures no_read { result ≢ Turn.ReadFault }
-    ensures standing { result ≡ Turn.On → IsStanding (script_state manager.new sessions.new) }
+    ensures ready { result ≡ Turn.On → IsReady (script_state manager.new sessions.new) }
+    ensures tables { sessions.new.stored ≡ sessions.old.stored }
+    ensures stores { AreStoresAfter Sp.blocks Sp.faults Sp.puts stores.old.items stores.new.items }
     ensures opening { manager.new.opening ≡ manager.old.opening }
     ensures write { result ≡ Turn.WriteFault → Rose (Si.faults sink.old) (Si.faults sink.new) }
     ensures write_none { result ≢ Turn.WriteFault → Si.faults sink.new ≡ Si.faults sink.old }
 {
-    let command = match read_command(alloc, reader.line()) {
-        Ok(command) => command,
+    let line = match read_script_line(alloc, sessions, reader.line()) {
+        Ok(line) => line,
         Err(unread) => return refuse_unread(alloc, replies, unread, sink),
     };
-    let Ok(()) = run_line(alloc, manager, sessions, replies, command) else {
+    let Ok(failed) = run_line(rt, alloc, manager, sessions, replies, line, stores) else {
         return Turn::Memory;
     };
+    sessions.note(failed);
     if reader.is_last() {
         Turn::End
     } else {
@@ -130,7 +139,8 @@ fn answer_line<Si: Sink>(
 }
 
 /// Takes the next line and answers it.
-fn next_turn<So: Source, Si: Sink>(
+fn next_turn<R: Threads + Sync, So: Source, Si: Sink, Sp: Spill + Send>(
+    rt: &R,
     alloc: Global,
     manager: &mut Manager,
     sessions: &mut ScriptSessions,
@@ -138,12 +148,16 @@ fn next_turn<So: Source, Si: Sink>(
     replies: &mut Vec<u8>,
     source: &mut So,
     sink: &mut Si,
+    stores: &mut Vec<Sp>,
 ) -> Turn
-    requires going { IsGoing (progress (script_state manager.old sessions.old) reader.old replies.old.items) }
-    ensures turns { Turns result (source_view So.left So.taken So.ended source.old) (source_view So.left So.taken So.ended source.new)
-        (Si.written sink.old) (Si.written sink.new) (progress (script_state manager.old sessions.old) reader.old replies.old.items) (progress (script_state manager.new sessions.new) reader.new replies.new.items) }
-    ensures going { result ≡ Turn.On → IsGoing (progress (script_state manager.new sessions.new) reader.new replies.new.items) }
+    requires stores { length stores.old.items ≡ 48 }
+    requires going { IsGoing (progress (script_state manager.old sessions.old) reader.old replies.old.items (stores_told Sp.faults stores.old.items sessions.old.store_failed)) }
+    ensures turns { IsTrusted sessions.old.stored Sp.blocks stores.old.items → Turns result (source_view So.left So.taken So.ended source.old) (source_view So.left So.taken So.ended source.new)
+        (Si.written sink.old) (Si.written sink.new) (progress (script_state manager.old sessions.old) reader.old replies.old.items (stores_told Sp.faults stores.old.items sessions.old.store_failed)) (progress (script_state manager.new sessions.new) reader.new replies.new.items (stores_told Sp.faults stores.new.items sessions.new.store_failed)) }
+    ensures going { result ≡ Turn.On → IsGoing (progress (script_state manager.new sessions.new) reader.new replies.new.items (stores_told Sp.faults stores.new.items sessions.new.store_failed)) }
     ensures more { result ≡ Turn.On → reader.old.given < reader.new.given }
+    ensures tables { sessions.new.stored ≡ sessions.old.stored }
+    ensures stores { AreStoresAfter Sp.blocks Sp.faults Sp.puts stores.old.items stores.new.items }
     ensures opening { manager.new.opening ≡ manager.old.opening }
     ensures sure { result ≡ Turn.ReadFault → decided reader.old.given reader.old.buffered ≡ None }
     ensures kept { result ≡ Turn.ReadFault → replies.new.items ≡ replies.old.items }
@@ -153,7 +167,9 @@ fn next_turn<So: Source, Si: Sink>(
     ensures write_none { result ≢ Turn.WriteFault → Si.faults sink.new ≡ Si.faults sink.old }
 {
     match reader.next_line(source) {
-        LineOutcome::Line => answer_line(alloc, manager, sessions, reader, replies, sink),
+        LineOutcome::Line => answer_line(
+            rt, alloc, manager, sessions, reader, replies, sink, stores,
+        ),
         LineOutcome::End => Turn::End,
         LineOutcome::LineTooLong => refuse(alloc, replies, LineFault::LineTooLong, sink),
         LineOutcome::InputTooLong => refuse(alloc, replies, LineFault::InputTooLong, sink),
@@ -162,7 +178,8 @@ fn next_turn<So: Source, Si: Sink>(
 }
 
 /// Takes the next line and answers it. What is ready is written before the source is read.
-fn take_line<So: Source, Si: Sink>(
+fn take_line<R: Threads + Sync, So: Source, Si: Sink, Sp: Spill + Send>(
+    rt: &R,
     alloc: Global,
     manager: &mut Manager,
     sessions: &mut ScriptSessions,
@@ -170,12 +187,16 @@ fn take_line<So: Source, Si: Sink>(
     replies: &mut Vec<u8>,
     source: &mut So,
     sink: &mut Si,
+    stores: &mut Vec<Sp>,
 ) -> Turn
-    requires going { IsGoing (progress (script_state manager.old sessions.old) reader.old replies.old.items) }
-    ensures turns { Turns result (source_view So.left So.taken So.ended source.old) (source_view So.left So.taken So.ended source.new)
-        (Si.written sink.old) (Si.written sink.new) (progress (script_state manager.old sessions.old) reader.old replies.old.items) (progress (script_state manager.new sessions.new) reader.new replies.new.items) }
-    ensures going { result ≡ Turn.On → IsGoing (progress (script_state manager.new sessions.new) reader.new replies.new.items) }
+    requires stores { length stores.old.items ≡ 48 }
+    requires going { IsGoing (progress (script_state manager.old sessions.old) reader.old replies.old.items (stores_told Sp.faults stores.old.items sessions.old.store_failed)) }
+    ensures turns { IsTrusted sessions.old.stored Sp.blocks stores.old.items → Turns result (source_view So.left So.taken So.ended source.old) (source_view So.left So.taken So.ended source.new)
+        (Si.written sink.old) (Si.written sink.new) (progress (script_state manager.old sessions.old) reader.old replies.old.items (stores_told Sp.faults stores.old.items sessions.old.store_failed)) (progress (script_state manager.new sessions.new) reader.new replies.new.items (stores_told Sp.faults stores.new.items sessions.new.store_failed)) }
+    ensures going { result ≡ Turn.On → IsGoing (progress (script_state manager.new sessions.new) reader.new replies.new.items (stores_told Sp.faults stores.new.items sessions.new.store_failed)) }
     ensures more { result ≡ Turn.On → reader.old.given < reader.new.given }
+    ensures tables { sessions.new.stored ≡ sessions.old.stored }
+    ensures stores { AreStoresAfter Sp.blocks Sp.faults Sp.puts stores.old.items stores.new.items }
     ensures opening { manager.new.opening ≡ manager.old.opening }
     ensures ready { result ≡ Turn.ReadFault → replies.new.items ≡ [] }
     ensures read { result ≡ Turn.ReadFault → Rose (So.faults source.old) (So.faults source.new) }
@@ -184,16 +205,21 @@ fn take_line<So: Source, Si: Sink>(
     ensures write_none { result ≢ Turn.WriteFault → Si.faults sink.new ≡ Si.faults sink.old }
 {
     if reader.has_line() {
-        return next_turn(alloc, manager, sessions, reader, replies, source, sink);
+        return next_turn(
+            rt, alloc, manager, sessions, reader, replies, source, sink, stores,
+        );
     }
     let Ok(()) = write_ready(replies, sink) else {
         return Turn::WriteFault;
     };
-    next_turn(alloc, manager, sessions, reader, replies, source, sink)
+    next_turn(
+        rt, alloc, manager, sessions, reader, replies, source, sink, stores,
+    )
 }
 
 /// Runs the lines of the source, up to its end or to one that is refused.
-fn run_lines<So: Source, Si: Sink>(
+fn run_lines<R: Threads + Sync, So: Source, Si: Sink, Sp: Spill + Send>(
+    rt: &R,
     alloc: Global,
     manager: &mut Manager,
     sessions: &mut ScriptSessions,
@@ -201,11 +227,15 @@ fn run_lines<So: Source, Si: Sink>(
     replies: &mut Vec<u8>,
     source: &mut So,
     sink: &mut Si,
+    stores: &mut Vec<Sp>,
 ) -> Turn
-    requires going { IsGoing (progress (script_state manager.old sessions.old) reader.old replies.old.items) }
-    ensures turns { Turns result (source_view So.left So.taken So.ended source.old) (source_view So.left So.taken So.ended source.new)
-        (Si.written sink.old) (Si.written sink.new) (progress (script_state manager.old sessions.old) reader.old replies.old.items) (progress (script_state manager.new sessions.new) reader.new replies.new.items) }
+    requires stores { length stores.old.items ≡ 48 }
+    requires going { IsGoing (progress (script_state manager.old sessions.old) reader.old replies.old.items (stores_told Sp.faults stores.old.items sessions.old.store_failed)) }
+    ensures turns { IsTrusted sessions.old.stored Sp.blocks stores.old.items → Turns result (source_view So.left So.taken So.ended source.old) (source_view So.left So.taken So.ended source.new)
+        (Si.written sink.old) (Si.written sink.new) (progress (script_state manager.old sessions.old) reader.old replies.old.items (stores_told Sp.faults stores.old.items sessions.old.store_failed)) (progress (script_state manager.new sessions.new) reader.new replies.new.items (stores_told Sp.faults stores.new.items sessions.new.store_failed)) }
     ensures stops { result ≢ Turn.On }
+    ensures tables { sessions.new.stored ≡ sessions.old.stored }
+    ensures stores { AreStoresAfter Sp.blocks Sp.faults Sp.puts stores.old.items stores.new.items }
     ensures opening { manager.new.opening ≡ manager.old.opening }
     ensures ready { result ≡ Turn.ReadFault → replies.new.items ≡ [] }
     ensures read { result ≡ Turn.ReadFault → Rose (So.faults source.old) (So.faults source.new) }
@@ -214,7 +244,9 @@ fn run_lines<So: Source, Si: Sink>(
     ensures write_none { result ≢ Turn.WriteFault → Si.faults sink.new ≡ Si.faults sink.old }
 {
     'lines: loop {
-        let turn = take_line(alloc, manager, sessions, reader, replies, source, sink);
+        let turn = take_line(
+            rt, alloc, manager, sessions, reader, replies, source, sink, stores,
+        );
         let Turn::On = turn else {
             return turn;
         };
@@ -225,10 +257,11 @@ fn run_lines<So: Source, Si: Sink>(
 fn conclude<Si: Sink>(
     alloc: Global,
     manager: &Manager,
+    sessions: &ScriptSessions,
     replies: &mut Vec<u8>,
     sink: &mut Si,
 ) -> ScriptEnd
-    ensures concludes { Concludes result (Si.written sink.old) (Si.written sink.new) (replies.old.items ++ end_text manager.now.state) }
+    ensures concludes { Concludes result sessions.now.store_failed (Si.written sink.old) (Si.written sink.new) (replies.old.items ++ end_text manager.now.state) }
     ensures write { result ≡ ScriptEnd.WriteFault → Rose (Si.faults sink.old) (Si.faults sink.new) }
     ensures write_none { result ≢ ScriptEnd.WriteFault → Si.faults sink.new ≡ Si.faults sink.old }
 {
@@ -243,7 +276,7 @@ fn conclude<Si: Sink>(
         return ScriptEnd::WriteFault;
     };
     ScriptEnd::End {
-        store_failed: false,
+        store_failed: sessions.store_failed(),
     }
 }
 
@@ -256,10 +289,11 @@ fn start(
     opening: u32,
 ) -> Result<(), AllocError>
     requires fresh { IsFresh manager.old }
-    requires sessions { sessions.now ≡ opening_sessions opening }
+    requires sessions { sessions.now ≡ opening_kept sessions.now.stored opening }
+    requires wide { AreScannable (asked_of sessions.now.stored) }
     requires opening { opening ≤ 100 }
-    ensures state { script_state manager.new sessions.now ≡ starting_state no_tables manager.old.opening opening }
-    ensures standing { IsStanding (script_state manager.new sessions.now) }
+    ensures state { script_state manager.new sessions.now ≡ starting_state (asked_of sessions.now.stored) manager.old.opening opening }
+    ensures ready { IsReady (script_state manager.new sessions.now) }
     ensures replies { OnOk result (replies.new.items ≡ replies.old.items ++ session_text own_session true manager.new.state.entries) }
     ensures opening { manager.new.opening ≡ manager.old.opening }
 {
@@ -269,26 +303,32 @@ fn start(
     }
 }
 
-/// Runs the source as a script without tables on a manager that has no entry, and writes its transcript to the sink. The
-/// priority of a session is `opening` percent at first. Replies are written before the source is read again. The sink is not flushed.
+/// Runs the source as a script on a manager that has no entry, over stored tables or none, and writes its transcript to the sink. The
+/// priority of a session is `opening` percent at first. Queries overflow into the 48 stores. Replies are written before the source is read
+/// again. The sink is not flushed.
 ///
 /// The journal of the manager gets the entries of the transcript's lines, each with its event and its reply: all of them
 /// where the script ran to its end or to a refused line, those of the lines that were answered where the source failed,
-/// and else the first of them.
-pub fn script_in<So: Source, Si: Sink>(
+/// and else the first of them; for want of memory the end of the query that then ran, as failed, may come behind them.
+pub fn script_in<R: Threads + Sync, So: Source, Si: Sink, Sp: Spill + Send>(
+    rt: &R,
     alloc: Global,
+    stored: Option<&Stored>,
     manager: &mut Manager,
     opening: u32,
     source: &mut So,
     sink: &mut Si,
+    stores: &mut Vec<Sp>,
 ) -> ScriptEnd
     requires fresh { IsFresh manager.old }
     requires opening { opening ≤ 100 }
+    requires stores { length stores.old.items ≡ 48 }
 
     // The whole transcript was written and all its entries were made, or what was written before a fault begins it, and the
     // entries that were made begin its entries. Before the source is read, all that its lines so far are answered was written.
-    ensures ends { EndsOn result (source_view So.left So.taken So.ended source.old) (source_view So.left So.taken So.ended source.new)
-        (Si.written sink.old) (Si.written sink.new) (script_transcript no_tables manager.old.opening opening) manager.new }
+    // Over tables this is said where the stores tell their blocks.
+    ensures ends { IsTrusted (option_copied stored.entry) Sp.blocks stores.old.items → EndsOn result (source_view So.left So.taken So.ended source.old) (source_view So.left So.taken So.ended source.new)
+        (Si.written sink.old) (Si.written sink.new) (map Sp.faults stores.old.items) (map Sp.faults stores.new.items) (script_transcript (asked_of (option_copied stored.entry)) manager.old.opening opening) manager.new (option_copied stored.entry) }
     ensures opening { manager.new.opening ≡ manager.old.opening }
 
     // A fault is answered exactly where the count of source or sink rose.
@@ -296,11 +336,15 @@ pub fn script_in<So: Source, Si: Sink>(
     ensures read_none { result ≢ ScriptEnd.ReadFault → So.faults source.new ≡ So.faults source.old }
     ensures write { result ≡ ScriptEnd.WriteFault → Rose (Si.faults sink.old) (Si.faults sink.new) }
     ensures write_none { result ≢ ScriptEnd.WriteFault → Si.faults sink.new ≡ Si.faults sink.old }
+
+    // The stores stand in their places; no count of theirs fell.
+    ensures stores { AreStoresAfter Sp.blocks Sp.faults Sp.puts stores.old.items stores.new.items }
 {
     let Ok(mut reader) = LineReader::new(alloc) else {
         return ScriptEnd::Memory;
     };
-    let Ok(mut sessions) = ScriptSessions::new(alloc, opening) else {
+    know_tables(stored);
+    let Ok(mut sessions) = ScriptSessions::new(alloc, opening, stored) else {
         return ScriptEnd::Memory;
     };
     let mut replies = Vec::new(alloc);
@@ -308,6 +352,7 @@ pub fn script_in<So: Source, Si: Sink>(
         return ScriptEnd::Memory;
     };
     match run_lines(
+        rt,
         alloc,
         manager,
         &mut sessions,
@@ -315,9 +360,10 @@ pub fn script_in<So: Source, Si: Sink>(
         &mut replies,
         source,
         sink,
+        stores,
     ) {
         Turn::On => unreachable!(),
-        Turn::End => conclude(alloc, manager, &mut replies, sink),
+        Turn::End => conclude(alloc, manager, &sessions, &mut replies, sink),
         Turn::Bad => ScriptEnd::BadScript,
         Turn::ReadFault => ScriptEnd::ReadFault,
         Turn::WriteFault => ScriptEnd::WriteFault,

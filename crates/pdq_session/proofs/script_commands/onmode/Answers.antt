@@ -1,8 +1,8 @@
 use Rattle.std.proofs.Common.{◌≡◌, ◌++◌, ℕ, OnOk, subst}
 use Rattle.pdq_model.specs.declared.events.Event.TheVariants.{Onmode}
 use Rattle.pdq_model.specs.declared.events.Setting.{Setting}
-use Rattle.pdq_session.specs.Changes.{IsAskedFor}
-use Rattle.pdq_session.specs.Commands.{letter_setting}
+use Rattle.pdq_reply.specs.Changes.{IsAskedFor}
+use Rattle.pdq_reply.specs.Changes.{letter_setting}
 use Rattle.pdq_session.specs.ScriptStates.{script_state}
 use Rattle.pdq_session.specs.ScriptSteps.{change_step}
 use Rattle.pdq_session.proofs.Growing.{grown_event}

@@ -4,10 +4,10 @@ use Rattle.pdq_model.specs.declared.events.Why.TheVariants as why
 use Rattle.pdq_model.specs.State.{State}
 use Rattle.pdq_model.specs.History.{may_collect}
 use Rattle.pdq_gate.specs.Queries.{session_of}
-use Rattle.pdq_session.specs.declared.replies.Refusal.{Refusal}
-use Rattle.pdq_session.specs.declared.replies.Refusal.TheVariants as refusal
+use Rattle.pdq_reply.specs.declared.replies.Refusal.{Refusal}
+use Rattle.pdq_reply.specs.declared.replies.Refusal.TheVariants as refusal
 use Rattle.pdq_session.specs.ScriptSteps.{own_refusal}
-use Rattle.pdq_session.proofs.Splitting.{not_same}
+use Rattle.pdq_reply.proofs.Splitting.{not_same}
 use Rattle.pdq_session.proofs.script_commands.own_refusal.Goals as goal
 
 abbrev refusal_by : Bool → Bool → Option Refusal

@@ -2,7 +2,7 @@ use Rattle.std.proofs.Common.{◌≡◌, ◌++◌, OnErr, OnOk, false, refl, sub
 use Rattle.pdq_sql.specs.declared.commands.Command.{Command}
 use Rattle.pdq_sql.specs.Commands.{command_of}
 use Rattle.pdq_session.specs.Commands.{AsksNoTable}
-use Rattle.pdq_session.specs.Progress.{Begins}
+use Rattle.pdq_session.specs.ScriptLines.{Begins}
 use Rattle.pdq_session.specs.ScriptStates.{script_state}
 use Rattle.pdq_session.specs.ScriptTranscript.{command_step}
 use Rattle.pdq_session.proofs.Growing.{begins_same}
@@ -11,6 +11,9 @@ use Rattle.pdq_session.proofs.script_commands.run_command.Goals as goal
 
 pub unreachable-requires : goal.unreachable-requires
 unreachable-requires c = let P : Command → Type 0 = λ x. AsksNoTable (command_of x) in subst P c.in-Query.is c.requires.asks
+
+pub unreachable-requires-in-Run : goal.unreachable-requires-in-Run
+unreachable-requires-in-Run c = let P : Command → Type 0 = λ x. AsksNoTable (command_of x) in subst P c.in-Run.is c.requires.asks
 
 pub returns-in-SetPriority-clause-replies : goal.returns-in-SetPriority-clause-replies
 unfolding command_step
@@ -101,24 +104,6 @@ unfolding command_step
 returns-in-Claim-clause-entries c =
     let P : Command → Type 0 = λ x. OnErr c.claim.result (Begins (command_step (script_state c.args.manager.now c.args.sessions.now) false (command_of x)).state.history c.claim.new.manager.history) in
     subst P (sym c.in-Claim.is) (on_err c.claim.result (all_entries _ _ c.claim.ensures.state))
-
-pub returns-in-Run-clause-replies : goal.returns-in-Run-clause-replies
-unfolding command_step
-returns-in-Run-clause-replies c =
-    let P : Command → Type 0 = λ x. OnOk c.run_query.result (c.run_query.new.replies.items ≡ c.args.replies.now.items ++ (command_step (script_state c.args.manager.now c.args.sessions.now) false (command_of x)).text) in
-    subst P (sym c.in-Run.is) (c.run_query.ensures.replies)
-
-pub returns-in-Run-clause-state : goal.returns-in-Run-clause-state
-unfolding command_step
-returns-in-Run-clause-state c =
-    let P : Command → Type 0 = λ x. OnOk c.run_query.result (script_state c.args.manager.now c.args.sessions.now ≡ (command_step (script_state c.args.manager.now c.args.sessions.now) false (command_of x)).state) in
-    subst P (sym c.in-Run.is) (on_ok c.run_query.result (sym c.run_query.ensures.state))
-
-pub returns-in-Run-clause-entries : goal.returns-in-Run-clause-entries
-unfolding command_step
-returns-in-Run-clause-entries c =
-    let P : Command → Type 0 = λ x. OnErr c.run_query.result (Begins (command_step (script_state c.args.manager.now c.args.sessions.now) false (command_of x)).state.history c.args.manager.now.history) in
-    subst P (sym c.in-Run.is) (on_err c.run_query.result (all_entries _ _ (sym c.run_query.ensures.state)))
 
 pub returns-in-Done-clause-replies : goal.returns-in-Done-clause-replies
 unfolding command_step

@@ -1,6 +1,0 @@
-use Rattle.std.proofs.Common.{◌≡◌, ◌++◌, take}
-use Rattle.pdq_session.specs.Replies.{admits_text}
-use Rattle.pdq_session.proofs.replies.add_admits.Given as goal
-
-abbrev pub invariant-admits : goal.invariant-admits
-invariant-admits l = l.out.items ≡ l.initial.out.items ++ admits_text (take l.admit-index l.admits)
