@@ -1,0 +1,12 @@
+pub mod Asking
+pub mod Saying
+pub mod Cancellations
+pub mod Collected
+pub mod Runs
+pub mod Evaluating
+pub mod Asked
+pub mod LinesRead
+pub mod Underway
+pub mod Taking
+pub mod Transcribed
+pub mod Finishing

@@ -1,0 +1,9 @@
+pub mod Outcomes
+pub mod Query
+pub mod Watching
+pub mod Watched
+pub mod Questions
+pub mod Commands
+pub mod LinesRead
+pub mod Course
+pub mod Ends

@@ -1,0 +1,11 @@
+pub mod Status
+pub mod History
+pub mod Texts
+pub mod Lines
+pub mod Session
+pub mod Laws
+pub mod Hand
+pub mod Writing
+pub mod Replies
+pub mod Pooling
+pub mod Plain
