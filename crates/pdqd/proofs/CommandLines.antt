@@ -1,4 +1,4 @@
--- What a parse finds in plain words of `ask` and `script`, and that it takes them.
+-- What a parse finds in plain words of `ask`, `make` and `script`, and that it takes them.
 use Rattle.std.proofs.Common.{◌≡◌, ◌∙◌, List, [], ◌∷◌, Bool, true, false, refl, ap, ap₂, codes, ◌&&◌}
 use Rattle.std.specs.List.{list_all}
 use Rattle.std.specs.Prelude.{fold}
@@ -9,20 +9,23 @@ use Rattle.clap.specs.Takes.{default_passes, is_valid, level_passes, settle_pass
 use Rattle.clap.proofs.OnLiterals.{clap_on_literals}
 use Rattle.pdqd.specs.declared.words.Form.TheVariants.{Ask, AskTables}
 use Rattle.std.specs.Prelude.{Some}
-use Rattle.pdqd.specs.Words.{number_of, script_of}
-use Rattle.pdqd.specs.CommandLine.{ask_command, command_line, form_found, script_command}
+use Rattle.pdqd.specs.Words.{make_of, number_of, over_tables, script_of}
+use Rattle.pdqd.specs.CommandLine.{ask_command, command_line, form_found, make_command, script_command}
 use Rattle.pdqd.proofs.ClapSteps.{IsPlain, passes, step}
 
 pub simple : is_simple command_line ≡ true
 unfolding clap_on_literals
 simple = refl
 
--- the two commands as they are built
+-- the three commands as they are built
 abbrev ask_built : Shape
 ask_built = built_leaf (inherited (with_leaf_noted command_line.top) ask_command.top)
 
 abbrev script_built : Shape
 script_built = built_leaf (inherited (with_leaf_noted command_line.top) script_command.top)
+
+abbrev make_built : Shape
+make_built = built_leaf (inherited (with_leaf_noted command_line.top) make_command.top)
 
 abbrev start : Walk
 start = walk_from nothing_held
@@ -61,6 +64,26 @@ module _ (select : Text) (plain : IsPlain select) where
   pub question_found : form_found (subcommand_of command_line (codes "ask" ∷ select ∷ [])) ≡ Some (Ask select)
   unfolding clap_on_literals
   question_found = ap (λ (w : Walk). form_found (Some (codes "ask", finished ask_built.rules w.held))) one_walk
+
+-- `make N`
+module _ (count : Text) (plain : IsPlain count) where
+  count_walk : walk make_built.rules [] nothing_held (count ∷ []) ≡ after make_built start count
+  count_walk = step make_built.rules start count plain refl refl refl
+
+  count_passes : walk_passes make_built [] start (count ∷ []) ≡ true
+  unfolding walk_passes
+  count_passes = passes make_built start count [] plain refl refl refl refl
+
+  count_level : level_passes make_built [] nothing_held (count ∷ []) false ≡ true
+  count_level = ap₂ (level make_built) count_passes count_walk
+
+  pub making_taken : takes command_line (codes "make" ∷ count ∷ []) ≡ true
+  unfolding clap_on_literals
+  making_taken = ap below count_level
+
+  pub making_found : form_found (subcommand_of command_line (codes "make" ∷ count ∷ [])) ≡ make_of (number_of count)
+  unfolding clap_on_literals
+  making_found = ap (λ (w : Walk). form_found (Some (codes "make", finished make_built.rules w.held))) count_walk
 
 -- `ask SELECT SCHEMA`
 module _ (select schema : Text) (plain : IsPlain select) (also : IsPlain schema) where
@@ -127,3 +150,37 @@ module _ (t q s m p : Text) (pt : IsPlain t) (pq : IsPlain q) (ps : IsPlain s) (
       ≡ script_of (number_of t) (number_of q) (number_of s) (number_of m) (number_of p)
   unfolding clap_on_literals
   script_is_found = ap (λ (w : Walk). form_found (Some (codes "script", finished script_built.rules w.held))) five_walk
+
+-- `script T Q S m p SCHEMA`
+module _ (t q s m p schema : Text) (pt : IsPlain t) (pq : IsPlain q) (ps : IsPlain s) (pm : IsPlain m) (pp : IsPlain p) (also : IsPlain schema) where
+  abbrev after_p : Walk
+  after_p = after script_built (after_m t q s m p pt pq ps pm pp) p
+
+  six_walk : walk script_built.rules [] nothing_held (t ∷ q ∷ s ∷ m ∷ p ∷ schema ∷ []) ≡ after script_built after_p schema
+  six_walk = ap (on script_built (q ∷ s ∷ m ∷ p ∷ schema ∷ [])) (step script_built.rules start t pt refl refl refl)
+      ∙ ap (on script_built (s ∷ m ∷ p ∷ schema ∷ [])) (step script_built.rules (after_t t q s m p pt pq ps pm pp) q pq refl refl refl)
+      ∙ ap (on script_built (m ∷ p ∷ schema ∷ [])) (step script_built.rules (after_q t q s m p pt pq ps pm pp) s ps refl refl refl)
+      ∙ ap (on script_built (p ∷ schema ∷ [])) (step script_built.rules (after_s t q s m p pt pq ps pm pp) m pm refl refl refl)
+      ∙ ap (on script_built (schema ∷ [])) (step script_built.rules (after_m t q s m p pt pq ps pm pp) p pp refl refl refl)
+      ∙ step script_built.rules after_p schema also refl refl refl
+
+  six_pass : walk_passes script_built [] start (t ∷ q ∷ s ∷ m ∷ p ∷ schema ∷ []) ≡ true
+  unfolding walk_passes
+  six_pass = passes script_built start t (q ∷ s ∷ m ∷ p ∷ schema ∷ []) pt refl refl refl refl
+      ∙ passes script_built (after_t t q s m p pt pq ps pm pp) q (s ∷ m ∷ p ∷ schema ∷ []) pq refl refl refl refl
+      ∙ passes script_built (after_q t q s m p pt pq ps pm pp) s (m ∷ p ∷ schema ∷ []) ps refl refl refl refl
+      ∙ passes script_built (after_s t q s m p pt pq ps pm pp) m (p ∷ schema ∷ []) pm refl refl refl refl
+      ∙ passes script_built (after_m t q s m p pt pq ps pm pp) p (schema ∷ []) pp refl refl refl refl
+      ∙ passes script_built after_p schema [] also refl refl refl refl
+
+  six_level : level_passes script_built [] nothing_held (t ∷ q ∷ s ∷ m ∷ p ∷ schema ∷ []) false ≡ true
+  six_level = ap₂ (level script_built) six_pass six_walk
+
+  pub tables_script_taken : takes command_line (codes "script" ∷ t ∷ q ∷ s ∷ m ∷ p ∷ schema ∷ []) ≡ true
+  unfolding clap_on_literals
+  tables_script_taken = ap below six_level
+
+  pub tables_script_found : form_found (subcommand_of command_line (codes "script" ∷ t ∷ q ∷ s ∷ m ∷ p ∷ schema ∷ []))
+      ≡ over_tables schema (script_of (number_of t) (number_of q) (number_of s) (number_of m) (number_of p))
+  unfolding clap_on_literals
+  tables_script_found = ap (λ (w : Walk). form_found (Some (codes "script", finished script_built.rules w.held))) six_walk

@@ -3,8 +3,8 @@ use Rattle.std.proofs.Common.{◌≡◌, ℕ, ◌≤◌, List, [], ◌++◌, len
 use Rattle.std.proofs.lemmas.Grind.{common_steps}
 use Rattle.std.proofs.lemmas.List.{append-nil}
 use Rattle.pdq_edge.specs.Bytes.{Gave, Gives, told_count}
-use Rattle.pdq_session.specs.Reading.{Took, remaining}
-use Rattle.pdq_session.proofs.Giving.{remaining_none, took_then}
+use Rattle.pdq_reply.specs.Reading.{Took, remaining}
+use Rattle.pdq_reply.proofs.Giving.{remaining_none, took_then}
 
 gave_from_gives : (b c : Option (List ℕ)) (xs : List ℕ) → Gives b c xs → Gave b c xs
 gave_from_gives None c xs gives = tt

@@ -8,5 +8,10 @@ pub mod Rules
 pub mod Inputs
 pub mod Questions
 pub mod Shapes
-pub mod FilesRead
 pub mod TableQuestions
+pub mod TableScripts
+pub mod MadeReplies
+pub mod StoredTables
+pub mod Selects
+pub mod StoresKept
+pub mod GivenBack

@@ -1,71 +1,10 @@
--- The files of a question on the tables of a schema, and what of them is told.
-use Rattle.std.specs.Prelude.{⊤, ℕ, ◌≡◌, ◌≤◌, List, [], ◌∷◌, ◌++◌, Option, Some, IfSome, Result, Ok, Err, length}
-use Rattle.pdq_schema.specs.declared.faults.SchemaFault.{SchemaFault}
-use Rattle.pdq_schema.specs.Schemas.{SchemaView}
-use Rattle.pdq_schema.specs.SchemaFile.{schema_of}
-use Rattle.pdq_table.specs.Loading.{too_long_at}
-use Rattle.pdqd.specs.declared.reading_files.TablesFault.{TablesFault}
-use Rattle.pdqd.specs.declared.reading_files.TablesFault.TheVariants.{Failed, Memory, TooLong}
-use Rattle.pdqd.specs.Ask.{answer_with_schema, tables_output}
-use Rattle.pdqd.specs.Output.{Output}
+-- What is asked of the tables of a schema file, and what of its files is told.
+use Rattle.std.specs.Prelude.{ℕ, ◌≡◌, List, Result}
+use Rattle.pdq_load.specs.Files.{AreTold, Contents, GivenFiles}
+use Rattle.pdqd.specs.Ask.{Question, tables_question}
 
--- the bytes of a schema file, and of the file of each of its tables in their order
-pub record GivenFiles : Type 0 where
-  pub schema : List ℕ
-  pub tables : List (List ℕ)
-
--- the bytes of the file of a name, where they are told
-abbrev pub Contents : Type 0
-Contents = List ℕ → Option (List ℕ)
-
--- the file of this name has these bytes, where they are told
-abbrev pub Told : Contents → List ℕ → List ℕ → Type 0
-Told contents name bytes = IfSome (contents name) (λ told. bytes ≡ told)
-
--- the files of these names have these bytes, each where they are told
-abbrev pub AllTold : Contents → List (List ℕ) → List (List ℕ) → Type 0
-AllTold contents [] [] = ⊤
-AllTold contents [] (bytes ∷ tables) = ⊥
-AllTold contents (name ∷ names) [] = ⊥
-AllTold contents (name ∷ names) (bytes ∷ tables) = Told contents name bytes × AllTold contents names tables
-
--- the files of the tables have these bytes, where there is a schema
-abbrev pub TablesTold : Contents → Result SchemaView SchemaFault → List (List ℕ) → Type 0
-TablesTold contents (Err e) tables = ⊤
-TablesTold contents (Ok s) tables = AllTold contents s.files tables
-
--- the schema file of this name and the files that it names have these bytes, where they are told
-pub record AreTold (contents : Contents) (name : List ℕ) (files : GivenFiles) : Type 0 where
-  pub schema : Told contents name files.schema
-  pub tables : TablesTold contents (schema_of files.schema) files.tables
-
--- one more file was read, and is short enough
-pub record AddsFile (contents : Contents) (name : List ℕ) (old new : List (List ℕ)) : Type 0 where
-  pub bytes : List ℕ
-  pub told : Told contents name bytes
-  pub short : length bytes ≤ 134217728
-  pub added : new ≡ old ++ bytes ∷ []
-
--- files of these names of which the first that is too long has this number
-pub record HasLongFile (contents : Contents) (names : List (List ℕ)) (table : ℕ) : Type 0 where
-  pub tables : List (List ℕ)
-  pub told : AllTold contents names tables
-  pub long : too_long_at 1 tables ≡ Some table
-
--- where the files were not read because one is too long, it is the first
-abbrev pub IsFirstLong : Contents → List (List ℕ) → TablesFault → Type 0
-IsFirstLong contents names Failed = ⊤
-IsFirstLong contents names (TooLong table) = HasLongFile contents names table
-IsFirstLong contents names Memory = ⊤
-
--- the output of a question on the tables of a schema, whose files are told
-pub record TablesGive (contents : Contents) (select : List ℕ) (schema : Result SchemaView SchemaFault) (output : Output) : Type 0 where
-  pub tables : List (List ℕ)
-  pub told : TablesTold contents schema tables
-  pub is : output ≡ answer_with_schema select tables schema
-
--- the output of a question on the tables of the schema file of this name
-pub record FilesGive (contents : Contents) (select name : List ℕ) (output : Output) : Type 0 where
+-- what is asked of the tables of the schema file of this name
+pub record FilesGive (contents : Contents) (select name : List ℕ) (asked : Result Question (List ℕ)) : Type 0 where
   pub files : GivenFiles
   pub told : AreTold contents name files
-  pub is : output ≡ tables_output select files.schema files.tables
+  pub is : asked ≡ tables_question select files

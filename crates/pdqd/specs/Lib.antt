@@ -5,3 +5,6 @@ pub mod Output
 pub mod Ask
 pub mod Files
 pub mod Input
+pub mod Make
+pub mod Stores
+pub mod Replying

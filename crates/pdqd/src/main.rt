@@ -7,9 +7,13 @@ ghost use Rattle.std.specs.Prelude.{◌≡◌, IfOk, vec_len};
 mod asking;
 mod command_line;
 mod file_names;
+#[cfg(test)]
+mod grant_tests;
 mod input;
-mod reading_files;
+mod replying;
 mod run;
+#[cfg(test)]
+mod script_tables_tests;
 #[cfg(test)]
 mod tables_tests;
 #[cfg(test)]

@@ -137,6 +137,12 @@ fn worked_examples(rt: HostRuntime) -> Result<(), Fail> {
             "",
             "SESSION 1 ADMIN STEP 1\nEND STEP 1 RESERVED 0 SCANS 0 WAITING 0\n",
         ),
+        (
+            "one_sale",
+            "make 1",
+            "",
+            "MAKE 1\nQUERY 1 ROWS 1\n0|0.00|0.0000\n0|0.00|0.0000\nQUERY 2 ROWS 1\nc0|0.00\nc0|0.00\nQUERY 3 ROWS 0\nEND STEP 10 RESERVED 0\n",
+        ),
     ];
     for (name, words, input, output) in cases {
         let bytes = input.as_bytes().to_vec(alloc)?;
@@ -164,8 +170,12 @@ fn refusals(rt: HostRuntime) -> Result<(), Fail> {
         "script 04000 10 10 100 0",
         "SCRIPT 4000 10 10 100 0",
         "script 4000 10 10 100",
-        "script 4000 10 10 100 0 0",
+        "script 4000 10 10 100 0 -x",
+        "script 4000 10 10 100 101 shop",
+        "script 4000 10 10 100 0 shop shop",
         "--help",
+        "make 0",
+        "make 1000001",
     ];
     for words in no_form {
         let bytes = b"CLAIM 50 4\n".to_vec(alloc)?;

@@ -2,7 +2,7 @@
 ghost use Rattle.std.specs.Prelude.{◌≡◌, IfOk, IfSome, OnErr, is_some, map, string_bytes};
 ghost use Rattle.std.specs.Char.{is_ascii_digit};
 ghost use Rattle.std.specs.List.{list_all};
-ghost use Rattle.pdqd.specs.Words.{has_digits, has_leading_zero, is_number, number_of, script_of, is_plain_word, form_of, form_of_plain, HasForm, IsInRange};
+ghost use Rattle.pdqd.specs.Words.{over_tables, script_form, has_digits, has_leading_zero, is_count, is_number, make_of, number_of, script_of, is_plain_word, form_of, form_of_plain, form_of_two, HasForm, IsInRange};
 
 use crate::command_line::{form_in, parse};
 use crate::file_names::FileName;
@@ -18,11 +18,25 @@ const NONPDQ_KB: u32 = 128;
 #[derive(Drop)]
 pub(crate) enum Form {
     /// A script over a manager of this configuration, with the priority that its sessions begin with.
-    Script { config: Config, opening: u32 },
+    Script {
+        config: Config,
+        opening: u32,
+    },
+    /// The same over the tables of the schema file of this name.
+    ScriptTables {
+        config: Config,
+        opening: u32,
+        schema: FileName,
+    },
     /// The answer of a select over the plain table of the source.
     Ask(Text),
     /// The answer of a select over the tables of the schema file of this name.
-    AskTables { select: Text, schema: FileName },
+    AskTables {
+        select: Text,
+        schema: FileName,
+    },
+    /// The ends of three answers over so many generated sales and their shops.
+    Make(u32),
 }
 
 fn all_digits(word: &[u8]) -> bool
@@ -84,6 +98,31 @@ pub(crate) fn script(
     }
 }
 
+/// The same script over the tables of the schema file of this name; None of another form.
+pub(crate) fn over_tables(form: Form, schema: FileName) -> Option<Form>
+    ensures value { result ≡ over_tables schema (Some form) }
+{
+    match form {
+        Form::Script { config, opening } => Some(Form::ScriptTables {
+            config,
+            opening,
+            schema,
+        }),
+        _ => None,
+    }
+}
+
+/// The making of so many sales; None where the number is missing or out of range.
+pub(crate) fn make(count: Option<u32>) -> Option<Form>
+    ensures value { result ≡ make_of count }
+    ensures in_range { IfSome result IsInRange }
+{
+    match count {
+        Some(count) if 1 <= count && count <= 1_000_000 => Some(Form::Make(count)),
+        _ => None,
+    }
+}
+
 /// Whether a word can be in a form: at most 8,192 bytes, of which the first is no dash.
 fn is_plain_word(word: &[u8]) -> bool
     ensures value { result ≡ is_plain_word word.now }
@@ -97,17 +136,29 @@ fn are_plain(words: &[String]) -> bool
     words.iter().all(|word| is_plain_word(word.as_bytes()))
 }
 
+/// Whether two plain words have a form, with the number in range.
+fn is_form_of_two(first: &str, second: &str) -> bool
+    ensures value { result ≡ is_some (form_of_two first.now second.now) }
+{
+    first == "ask" || (first == "make" && make(number(second)).is_some())
+}
+
+/// Whether the words of a script have a form, with each number in range.
+fn is_form_of_script(first: &str, t: &str, q: &str, s: &str, m: &str, p: &str) -> bool
+    ensures value { result ≡ is_some (script_form first.now t.now q.now s.now m.now p.now) }
+{
+    first == "script" && script(number(t), number(q), number(s), number(m), number(p)).is_some()
+}
+
 /// Whether plain words have a form, with each number in range.
 fn is_form(words: &[String]) -> bool
     ensures value { result ≡ is_some (form_of_plain (map string_bytes words.now)) }
 {
     match words {
-        [first, _select] => first.as_str() == "ask",
+        [first, second] => is_form_of_two(first, second),
         [first, _select, _schema] => first.as_str() == "ask",
-        [first, t, q, s, m, p] => {
-            first.as_str() == "script"
-                && script(number(t), number(q), number(s), number(m), number(p)).is_some()
-        }
+        [first, t, q, s, m, p] => is_form_of_script(first, t, q, s, m, p),
+        [first, t, q, s, m, p, _schema] => is_form_of_script(first, t, q, s, m, p),
         _ => false,
     }
 }

@@ -28,5 +28,7 @@ returns c =
     ap app_of_fields c.subcommand_required-program.ensures ∙ ap one_wanted (ap app_of_fields c.disable_help_subcommand.ensures ∙ ap no_help_command (ap app_of_fields c.disable_help_flag.ensures ∙ ap no_help (ap app_of_fields c.no_binary_name.ensures ∙ ap no_name c.new.ensures.app))) in
     let ask_is = c.in_ok-ask.ensures.app in
     let script_is = c.in_ok-script.ensures.app in
+    let make_is = c.in_ok-make.ensures.app in
     let one = c.in_ok-subcommand.ensures.shape (third_not _ _ _ _ (ap (λ (a : App). a.top.is_plain) ask_is)) ∙ ap₂ with_subcommand program_is (ap (λ (a : App). a.top) ask_is) in
-    record { app = IfOk-weaker c.subcommand-2.result _ _ (λ r h. h.shape (third_not _ _ _ _ (ap (λ (a : App). a.top.is_plain) script_is)) ∙ ap₂ with_subcommand one (ap (λ (a : App). a.top) script_is)) c.subcommand-2.ensures }
+    let two = c.in_ok-subcommand-2.ensures.shape (third_not _ _ _ _ (ap (λ (a : App). a.top.is_plain) script_is)) ∙ ap₂ with_subcommand one (ap (λ (a : App). a.top) script_is) in
+    record { app = IfOk-weaker c.subcommand-3.result _ _ (λ r h. h.shape (third_not _ _ _ _ (ap (λ (a : App). a.top.is_plain) make_is)) ∙ ap₂ with_subcommand two (ap (λ (a : App). a.top) make_is)) c.subcommand-3.ensures }

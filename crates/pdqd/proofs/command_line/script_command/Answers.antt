@@ -1,6 +1,6 @@
 use Rattle.std.proofs.Common.{rules, ap₂, codes, ◌≡◌, ◌∙◌}
 use Rattle.std.proofs.lemmas.Result.{IfOk-weaker}
-use Rattle.clap.specs.Words.{rule_of, with_rule}
+use Rattle.clap.specs.Words.{new_rule, rule_of, with_rule}
 use Rattle.pdqd.specs.CommandLine.{required}
 use Rattle.pdqd.proofs.command_line.script_command.Goals as goal
 
@@ -15,4 +15,6 @@ returns c =
     let two = c.in_ok-arg-2.ensures.shape (search rules) ∙ ap₂ with_rule one queries_are in
     let three = c.in_ok-arg-3.ensures.shape (search rules) ∙ ap₂ with_rule two scans_are in
     let four = c.in_ok-arg-4.ensures.shape (search rules) ∙ ap₂ with_rule three priority_is in
-    record { app = IfOk-weaker c.arg-5.result _ _ (λ r h. h.shape (search rules) ∙ ap₂ with_rule four opening_is) c.arg-5.ensures }
+    let five = c.in_ok-arg-5.ensures.shape (search rules) ∙ ap₂ with_rule four opening_is in
+    let schema_is : rule_of c.new-schema.result ≡ new_rule (codes "schema") = search rules in
+    record { app = IfOk-weaker c.arg-6.result _ _ (λ r h. h.shape (search rules) ∙ ap₂ with_rule five schema_is) c.arg-6.ensures }

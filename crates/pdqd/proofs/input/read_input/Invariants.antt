@@ -1,5 +1,5 @@
 use Rattle.std.proofs.Common.{◌≡◌, ◌-◌, length}
-use Rattle.pdq_session.specs.Reading.{Took}
+use Rattle.pdq_reply.specs.Reading.{Took}
 use Rattle.pdqd.proofs.input.read_input.Given as goal
 
 abbrev pub invariant-reads : goal.invariant-reads

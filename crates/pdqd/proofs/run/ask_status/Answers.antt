@@ -1,38 +1,42 @@
-use Rattle.std.proofs.Common.{◌≡◌, sym, ◌∙◌, inl}
-use Rattle.pdqd.proofs.Questions.{answered_ended, known_status, never_unread, no_write_status, reply_status, whole_is_written, wrote_nothing, wrote_part, wrote_reply}
+use Rattle.std.proofs.Common.{◌≡◌, subst}
+use Rattle.pdqd.specs.Run.{RunsToEnd}
+use Rattle.pdqd.proofs.Questions.{answered_ended, end_is_whole, known_status, never_unread, reply_status, whole_is_written, wrote_nothing, wrote_part, wrote_reply}
 use Rattle.pdqd.proofs.Statuses.{whole_kept}
 use Rattle.pdqd.proofs.run.ask_status.Goals as goal
 
 pub returns-in-Err-Failed-clause-part : goal.returns-in-Err-Failed-clause-part
-returns-in-Err-Failed-clause-part g c contents f h is = wrote_nothing _ contents f h _ _ _ c.in-Err-Failed.ensures.some
+returns-in-Err-Failed-clause-part g c contents is = wrote_nothing _ contents _ _ _ _ _ c.in-Err-Failed.ensures.some
 
 pub returns-in-Err-Memory-clause-part : goal.returns-in-Err-Memory-clause-part
-returns-in-Err-Memory-clause-part g c contents f h is = wrote_nothing _ contents f h _ _ _ c.in-Err-Memory.ensures.some
-
-pub returns-in-Ok-reply_to-clause-known : goal.returns-in-Ok-reply_to-clause-known
-returns-in-Ok-reply_to-clause-known g c = known_status _ _ c.write_reply.ensures.known (reply_status _ _ _ _ c.in-Ok-reply_to.ensures.reply)
-
-pub returns-in-Ok-reply_to-clause-whole : goal.returns-in-Ok-reply_to-clause-whole
-returns-in-Ok-reply_to-clause-whole g c contents f h is =
-    let same : c.write_reply.result ≡ c.in-Ok-reply_to.reply.status = whole_kept _ _ c.write_reply.ensures.known is in
-    wrote_reply _ contents f h c.write_reply.result _ _ _ _ _ _ c.in-Ok.ensures.read (rw same c.in-Ok-reply_to.ensures.reply) (c.write_reply.ensures.whole (whole_is_written _ is))
-
-pub returns-in-Ok-reply_to-clause-part : goal.returns-in-Ok-reply_to-clause-part
-returns-in-Ok-reply_to-clause-part g c contents f h is = wrote_part _ contents f h _ _ _ _ _ _ _ c.in-Ok.ensures.read c.in-Ok-reply_to.ensures.reply c.write_reply.ensures.part
-
-pub returns-in-Ok-reply_to-clause-ended : goal.returns-in-Ok-reply_to-clause-ended
-returns-in-Ok-reply_to-clause-ended g c is =
-    let same : c.write_reply.result ≡ c.in-Ok-reply_to.reply.status = whole_kept _ _ c.write_reply.ensures.known (inl is) in
-    answered_ended _ _ _ _ _ _ c.in-Ok.ensures.read c.in-Ok-reply_to.ensures.reply (sym same ∙ is)
-
-pub returns-in-Ok-reply_to-clause-read : goal.returns-in-Ok-reply_to-clause-read
-returns-in-Ok-reply_to-clause-read g c is = absurd (never_unread _ _ c.write_reply.ensures.known (reply_status _ _ _ _ c.in-Ok-reply_to.ensures.reply) is)
-
-pub returns-in-Ok-reply_to-clause-write : goal.returns-in-Ok-reply_to-clause-write
-returns-in-Ok-reply_to-clause-write g c is = c.write_reply.ensures.write (no_write_status _ (reply_status _ _ _ _ c.in-Ok-reply_to.ensures.reply)) is
+returns-in-Err-Memory-clause-part g c contents is = wrote_nothing _ contents _ _ _ _ _ c.in-Err-Memory.ensures.some
 
 pub returns-in-Err-clause-part : goal.returns-in-Err-clause-part
-returns-in-Err-clause-part g c contents f h is = wrote_nothing _ contents f h _ _ _ (record { bytes = _; came = c.in-Ok.ensures.read.came })
+returns-in-Err-clause-part g c contents is = wrote_nothing _ contents _ _ _ _ _ (record { bytes = _; came = c.in-Ok.ensures.read.came })
+
+pub returns-in-Err-reply_to-clause-part : goal.returns-in-Err-reply_to-clause-part
+returns-in-Err-reply_to-clause-part g c contents is = wrote_nothing _ contents _ _ _ _ _ (record { bytes = _; came = c.in-Ok.ensures.read.came })
+
+pub returns-in-Ok-reply_to-clause-known : goal.returns-in-Ok-reply_to-clause-known
+returns-in-Ok-reply_to-clause-known g c = known_status _ _ c.write_reply.ensures.known (reply_status _ _ _ _ _ c.in-Ok-reply_to.ensures.reply)
+
+pub returns-in-Ok-reply_to-clause-whole : goal.returns-in-Ok-reply_to-clause-whole
+returns-in-Ok-reply_to-clause-whole g c contents is =
+    let same : c.write_reply.result ≡ c.in-Ok-reply_to.reply.status = whole_kept _ _ c.write_reply.ensures.known is in
+    rw same (wrote_reply _ contents _ _ _ _ _ _ _ _ _ _ c.in-Ok.ensures.read c.in-Ok-question.ensures.asked c.in-Ok-reply_to.ensures.reply (c.write_reply.ensures.whole (whole_is_written _ is)))
+
+pub returns-in-Ok-reply_to-clause-part : goal.returns-in-Ok-reply_to-clause-part
+returns-in-Ok-reply_to-clause-part g c contents is = wrote_part _ contents _ _ _ _ _ _ _ _ _ _ c.in-Ok.ensures.read c.in-Ok-question.ensures.asked c.in-Ok-reply_to.ensures.reply c.write_reply.ensures.part
+
+pub returns-in-Ok-reply_to-clause-ended : goal.returns-in-Ok-reply_to-clause-ended
+returns-in-Ok-reply_to-clause-ended g c ends =
+    let same : c.write_reply.result ≡ c.in-Ok-reply_to.reply.status = whole_kept _ _ c.write_reply.ensures.known (end_is_whole _ ends) in
+    answered_ended _ _ _ _ _ _ _ _ _ c.in-Ok.ensures.read c.in-Ok-question.ensures.asked c.in-Ok-reply_to.ensures.reply (subst RunsToEnd same ends)
+
+pub returns-in-Ok-reply_to-clause-read : goal.returns-in-Ok-reply_to-clause-read
+returns-in-Ok-reply_to-clause-read g c is = absurd (never_unread _ _ c.write_reply.ensures.known (reply_status _ _ _ _ _ c.in-Ok-reply_to.ensures.reply) is)
+
+pub returns-in-Ok-reply_to-clause-write : goal.returns-in-Ok-reply_to-clause-write
+returns-in-Ok-reply_to-clause-write g c is = c.write_reply.ensures.write (whole_is_written _ (reply_status _ _ _ _ _ c.in-Ok-reply_to.ensures.reply)) is
 
 pub returns-in-Ok-reply_to-clause-flushed : goal.returns-in-Ok-reply_to-clause-flushed
 returns-in-Ok-reply_to-clause-flushed g c is = c.write_reply.ensures.flushed (whole_is_written _ is)
