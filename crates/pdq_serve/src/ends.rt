@@ -37,6 +37,7 @@ pub struct Ended<So, Si> {
 }
 
 impl<So, Si> Ended<So, Si> {
+    /// The end of a session, of which its source and its sink have the types.
     pub(crate) fn new(end: SessionEnd) -> Self
         ensures end { result.end ≡ end }
     {

@@ -53,6 +53,7 @@ pub(crate) fn outcome_of(alloc: Global, run: Result<Evaluation, Memory>) -> Outc
     }
 }
 
+/// How a query with this outcome is finished.
 pub(crate) fn how_of(outcome: &Outcome) -> How
     ensures value { result ≡ how_of outcome.now }
 {
@@ -63,6 +64,7 @@ pub(crate) fn how_of(outcome: &Outcome) -> How
     }
 }
 
+/// What an outcome is told as, with the step of its finish.
 pub(crate) fn ran_of(outcome: Outcome, step: u64) -> Ran
     ensures value { result ≡ ran_of outcome step }
 {

@@ -321,7 +321,7 @@ pub(crate) fn finish(
     }
 }
 
-// Why a query cannot be collected by this session.
+/// Why a query cannot be collected by this session.
 pub(crate) fn own_refusal(manager: &Manager, current: u32, id: u32) -> Option<Refusal>
     ensures value { result ≡ own_refusal manager.now.state current id }
     ensures may { IfNone result (IsTrue (may_collect manager.now.state (session_of manager.now.state id) id)) }

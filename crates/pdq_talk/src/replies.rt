@@ -10,6 +10,7 @@ use pdq_office::{Cancelled, Changed, Opened, Refused, Status};
 use pdq_stat::onstat_text;
 use std::alloc::Global;
 
+/// The reply to a session that was opened, as an administrator or not, or refused.
 pub(crate) fn opened_reply(admin: bool, outcome: Result<Opened, Refused>) -> Replied
     ensures value { result ≡ opened_reply admin outcome }
 {
@@ -19,6 +20,7 @@ pub(crate) fn opened_reply(admin: bool, outcome: Result<Opened, Refused>) -> Rep
     }
 }
 
+/// The reply to a cancellation of this query.
 pub(crate) fn cancelled_reply(id: u32, outcome: Result<Cancelled, Refused>) -> Replied
     ensures value { result ≡ cancelled_reply id outcome }
 {
@@ -28,6 +30,7 @@ pub(crate) fn cancelled_reply(id: u32, outcome: Result<Cancelled, Refused>) -> R
     }
 }
 
+/// The reply to a change of this setting.
 pub(crate) fn changed_reply(setting: Setting, outcome: Result<Changed, Refused>) -> Replied
     ensures value { result ≡ changed_reply setting outcome }
 {
@@ -37,6 +40,7 @@ pub(crate) fn changed_reply(setting: Setting, outcome: Result<Changed, Refused>)
     }
 }
 
+/// The reply to a change with a pool, which was made by the status of the step `look`.
 pub(crate) fn pooled_reply(
     setting: Setting,
     look: u64,
